@@ -1,0 +1,65 @@
+ghost use Rattle.std.specs.Prelude.{◌≡◌, IfOk, chars, encode_utf8_all};
+
+use crate::copies::TryCopy;
+use std::alloc::{AllocError, Global};
+use std::marker::Model;
+
+/// A text, which contracts see as the list of its characters. It keeps its allocator.
+#[derive(Drop)]
+pub struct Text {
+    string: String,
+}
+
+impl Model for Text {
+    ghost use Rattle.std.specs.Prelude.{List, ℕ, chars, string_bytes};
+
+    ghost Value = { List ℕ };
+
+    ghost view = { λ text. chars (string_bytes text.string) };
+}
+
+impl Text {
+    /// A text of the characters of `text`. Refused for want of memory alone.
+    pub fn from_str(alloc: Global, text: &str) -> Result<Text, AllocError>
+        ensures chars { IfOk result (λ made. made ≡ chars text.now) }
+        ensures bytes { IfOk result (λ made. encode_utf8_all made ≡ text.now) }
+    {
+        Ok(Text {
+            string: String::from_str(alloc, text)?,
+        })
+    }
+
+    /// The characters.
+    pub fn as_str(&self) -> &str
+        ensures bytes { result.now ≡ encode_utf8_all self.now }
+        ensures chars { chars result.now ≡ self.now }
+    {
+        self.string.as_str()
+    }
+}
+
+impl TryCopy for Text {
+    fn copy(&self, alloc: Global) -> Result<Text, AllocError> {
+        Text::from_str(alloc, self.string.as_str())
+    }
+}
+
+impl PartialEq for Text {
+    ghost use Rattle.std.specs.Prelude.{nat_eq};
+    ghost use Rattle.std.specs.Cmp.{partial_equiv_from_equiv};
+    ghost use Rattle.std.specs.Cmp.Lexicographic.{pointwise, nat_list_eq_equiv};
+
+    ghost eq = { pointwise nat_eq };
+
+    ghost laws = { partial_equiv_from_equiv nat_list_eq_equiv };
+
+    fn eq(&self, other: &Text) -> bool {
+        self.string.as_str() == other.string.as_str()
+    }
+}
+
+impl Eq for Text {
+    ghost use Rattle.std.specs.Cmp.Lexicographic.{nat_list_eq_equiv};
+
+    ghost laws = { nat_list_eq_equiv };
+}
