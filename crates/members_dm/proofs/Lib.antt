@@ -1,0 +1,2 @@
+pub mod MembershipLemmas
+pub mod PlacesLemmas
