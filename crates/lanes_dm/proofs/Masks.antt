@@ -4,7 +4,7 @@ use lib.Dec.{eqb, ltb}
 use lib.Lanes.{Each1, chunk, put_chunk, sel_l, top, zip2}
 use Rattle.std.proofs.lemmas.Bool.{cases_eq, cases_lt, le-ltb, lt-ltb, ne_eqb}
 use Rattle.std.proofs.lemmas.List.{drop-drop, get_or-drop, length-take-le, map-append, take_more}
-use Rattle.std.proofs.lemmas.Simd.{length-chunk, tops_compared, zip2_splat}
+use Rattle.std.proofs.lemmas.Simd.{tops_compared, zip2_splat}
 use Rattle.lanes_dm.specs.Flags.{flag}
 
 -- a choice between two numbers, by a test of each pair

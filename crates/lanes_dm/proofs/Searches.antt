@@ -1,6 +1,5 @@
 -- The first place that passes, and how many pass, a chunk further.
-use Rattle.std.proofs.Common.{◌≡◌, ◌+◌, ◌-◌, ◌<◌, ◌≤◌, ◌∙◌, ◌∷◌, ◌==◌, ◌↔◌, [], ◌*◌, not, IsTrue, Contains, ℕ, List, Bool, true, false, cond, Option, Some, None, option_map, length, get_or, take, drop, map, position, count_by, take-add, refl, sym, ap, arith, inl, inr, w64}
-use lib.Dec.{ltb}
+use Rattle.std.proofs.Common.{◌≡◌, ◌+◌, ◌-◌, ◌<◌, ◌≤◌, ◌∙◌, ◌∷◌, ◌==◌, ◌↔◌, [], ◌*◌, not, IsTrue, Contains, ℕ, List, Bool, false, cond, Some, option_map, length, get_or, take, drop, map, position, count_by, take-add, refl, sym, ap, arith, inl, inr, w64}
 use lib.Lanes.{chunk, mask_l}
 use Rattle.std.specs.Int.{trailing_zeros}
 use Rattle.std.specs.List.{position_or_len}

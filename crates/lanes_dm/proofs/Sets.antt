@@ -1,5 +1,5 @@
 -- The set that a table of bits stands for.
-use Rattle.std.proofs.Common.{◌≡◌, ◌+◌, ◌*◌, ◌/◌, ◌%◌, ◌^◌, ◌==◌, ◌||◌, ◌<◌, ◌≤◌, ◌∙◌, ◌⊎◌, ℕ, zero, suc, List, Bool, true, false, not, length, get_or, map, refl, sym, ap, arith, inl, inr, bit_and, bit_or, slice_set, w8, pow_pos, ◌≢◌, cond, replicate, Fits}
+use Rattle.std.proofs.Common.{◌≡◌, ◌*◌, ◌/◌, ◌%◌, ◌^◌, ◌==◌, ◌||◌, ◌<◌, ◌≤◌, ◌∙◌, ℕ, List, Bool, true, false, not, length, get_or, map, refl, sym, ap, arith, inl, inr, bit_and, bit_or, slice_set, w8, pow_pos, ◌≢◌, cond, replicate, Fits}
 use lib.Dec.{eqb}
 use lib.Lanes.{Each1, mask_l, top, zip2}
 use Rattle.std.specs.Int.{bit_at}

@@ -1,6 +1,6 @@
 -- Tables of 16 bytes, read by lanes.
-use Rattle.std.proofs.Common.{◌≡◌, ◌+◌, ◌-◌, ◌*◌, ◌/◌, ◌<◌, ◌≤◌, ◌∙◌, ◌∷◌, ◌++◌, [], ℕ, suc, List, Bool, true, false, cond, IsTrue, get_or, length, map, refl, sym, ap, arith, inl, inr, bit_and, bit_or, nat_le, replicate, ◌%◌, ◌^◌, ◌==◌, ◌&&◌, w8, eqb, Fits}
-use lib.Dec.{leb, ltb}
+use Rattle.std.proofs.Common.{◌≡◌, ◌+◌, ◌-◌, ◌*◌, ◌/◌, ◌<◌, ◌≤◌, ◌∙◌, ◌∷◌, ◌++◌, [], ℕ, suc, List, Bool, true, false, cond, IsTrue, get_or, length, map, refl, ap, arith, inl, inr, bit_and, bit_or, nat_le, replicate, ◌%◌, ◌^◌, ◌==◌, ◌&&◌, w8, Fits}
+use lib.Dec.{leb}
 use lib.Lanes.{Each1, chunk, pick_l, zip2}
 use Rattle.std.proofs.lemmas.Bool.{agree_below, agree_below_at, cases_Bool, cases_lt, eqb-true, le-ltb, lt-leb}
 use Rattle.std.proofs.lemmas.List.{get_or_append_left, get_or-append_right, map-append}

@@ -7,6 +7,7 @@ use std::simd::prelude::*;
 
 // How many numbers, and how many flags, a step takes.
 const NUMBERS: usize = 16;
+
 const FLAGS: usize = 32;
 
 // The choices of the 16 numbers from `at`.

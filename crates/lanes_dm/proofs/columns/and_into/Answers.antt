@@ -1,4 +1,4 @@
-use Rattle.std.proofs.Common.{◌≡◌, ◌+◌, ◌==◌, ◌||◌, ◌∙◌, ℕ, not, sym, ap, length, get_or, take, drop, arith}
+use Rattle.std.proofs.Common.{◌≡◌, ◌+◌, ◌==◌, ◌||◌, ◌∙◌, ℕ, not, sym, ap, length, take, drop, arith}
 use lib.Lanes.{chunk, zip2}
 use Rattle.std.proofs.lemmas.List.{drop-set-lt, length-set, take_more_set}
 use Rattle.std.proofs.lemmas.Simd.{length-chunk, length-put_chunk, length-zip2, take_more_put_chunk}

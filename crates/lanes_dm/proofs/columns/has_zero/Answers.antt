@@ -1,4 +1,4 @@
-use Rattle.std.proofs.Common.{◌∙◌, List, ℕ, Contains, refl, sym, subst, arith}
+use Rattle.std.proofs.Common.{List, ℕ, Contains, refl, sym, subst, arith}
 use Rattle.lanes_dm.proofs.Searches.{Contains-from_chunk, Contains-from_drop, no_zero_in_chunk, tail_whole, zero_after}
 use Rattle.lanes_dm.proofs.columns.has_zero.Goals as goal
 

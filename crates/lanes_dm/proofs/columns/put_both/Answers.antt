@@ -1,4 +1,4 @@
-use Rattle.std.proofs.Common.{◌∙◌, ap}
+use Rattle.std.proofs.Common.{ap}
 use lib.Lanes.{chunk, put_chunk}
 use Rattle.std.proofs.lemmas.Simd.{length-chunk}
 use Rattle.lanes_dm.proofs.Masks.{both_flags, least_is}

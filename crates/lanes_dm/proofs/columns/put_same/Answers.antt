@@ -1,4 +1,4 @@
-use Rattle.std.proofs.Common.{◌≡◌, ◌∙◌, map, replicate, ap, arith, Fits, w8}
+use Rattle.std.proofs.Common.{◌∙◌, replicate, ap, arith, Fits, w8}
 use lib.Dec.{eqb}
 use lib.Lanes.{chunk, put_chunk}
 use Rattle.std.proofs.lemmas.List.{map-id}
