@@ -4,6 +4,8 @@
 
 mod files;
 mod folder_shelf;
+mod memory_shelf;
+mod memory_sink;
 mod no_fault_shelf;
 mod no_fault_sink;
 mod shelf;
@@ -13,6 +15,8 @@ mod transfers;
 
 pub use files::{FileList, NamedFile};
 pub use folder_shelf::FolderShelf;
+pub use memory_shelf::{Calls, MemoryShelf};
+pub use memory_sink::{Cut, Cuts, MemorySink};
 pub use no_fault_shelf::NoFaultShelf;
 pub use no_fault_sink::NoFaultSink;
 pub use shelf::{LONGEST, LoadError, Shelf, StoreError};
