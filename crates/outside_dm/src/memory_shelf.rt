@@ -115,7 +115,7 @@ impl Shelf for MemoryShelf {
             self.store_faults = self.store_faults.saturating_add(1);
             return Err(StoreError::Failed);
         }
-        match self.files.put_first(name, bytes) {
+        match self.files.replace(name, bytes) {
             Ok(()) => Ok(()),
             Err(_) => Err(StoreError::Memory),
         }
