@@ -11,6 +11,8 @@ mod no_fault_sink;
 mod shelf;
 mod sink;
 mod stream_sink;
+#[cfg(test)]
+mod tests;
 mod transfers;
 
 pub use files::{FileList, NamedFile};
