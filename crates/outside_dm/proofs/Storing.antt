@@ -1,12 +1,11 @@
 -- How files that are stored one after another join.
-use Rattle.std.specs.Prelude.{◌≡◌, ◌≢◌, ℕ, ◌+◌, ◌<◌, ◌≤◌, List, [], ◌∷◌, ◌++◌, length, take, drop, map, slice_get, Option, Some, None, Result, Ok, Err, MatchOption, ⊤}
+use Rattle.std.specs.Prelude.{◌≡◌, ◌≢◌, ℕ, ◌+◌, ◌<◌, List, [], ◌∷◌, ◌++◌, length, take, drop, map, slice_get, Option, Some, None, Result, Ok, Err, MatchOption, ⊤}
 use Rattle.std.proofs.Common.{refl, sym, ap, subst, ◌∙◌, arith, get_or, drop-cons, add-one}
 use Rattle.std.proofs.lemmas.List.{take-append-drop, map-append}
 use Rattle.std.proofs.Math.Seq.{take-append_seam, take-suc}
 use Rattle.std.specs.FinMap.{get, insert}
-use Rattle.outside_dm.specs.Counts.{Rose}
 use Rattle.outside_dm.specs.Shelves.{Files, ShelfState, StoreEnds, StoreKeeps, Replaces, KeepsOthers}
-use Rattle.outside_dm.specs.Storing.{Batch, insert_all, StoresAll, StoresFirst, IsOther, BatchEnds, Stores, Stored}
+use Rattle.outside_dm.specs.Storing.{Batch, insert_all, StoresAll, StoresFirst, IsOther, Stores, Stored}
 use Rattle.outside_dm.specs.declared.shelf.StoreError.{StoreError}
 use Rattle.outside_dm.specs.declared.shelf.StoreError.TheVariants.{Failed, Memory}
 use Rattle.outside_dm.proofs.Named.{get-insert_same, get-insert_other}

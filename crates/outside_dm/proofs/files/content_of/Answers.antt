@@ -1,6 +1,4 @@
-use Rattle.std.proofs.Common.{◌≡◌, ◌∙◌, sym, ap, Some, List, ℕ, get_or}
-use Rattle.std.specs.Prelude.{slice_get}
-use Rattle.outside_dm.specs.Files.{IsFirstNamed}
+use Rattle.std.proofs.Common.{◌∙◌, sym, ap, Some, List, ℕ}
 use Rattle.outside_dm.specs.declared.files.NamedFile.{NamedFile}
 use Rattle.outside_dm.proofs.Named.{get-files_of_first, get-files_of_none, get_or-at}
 use Rattle.outside_dm.proofs.files.content_of.Goals as goal

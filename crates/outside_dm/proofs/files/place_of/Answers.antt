@@ -1,4 +1,4 @@
-use Rattle.outside_dm.proofs.Named.{NoneNamed-take, IsFirstNamed-here}
+use Rattle.outside_dm.proofs.Named.{NoneNamed-take}
 use Rattle.outside_dm.proofs.files.place_of.Goals as goal
 
 pub loop-place-preserved : goal.loop-place-preserved

@@ -1,4 +1,3 @@
-use Rattle.std.proofs.Common.{◌≡◌}
 use Rattle.outside_dm.proofs.Named.{lacks_where_none}
 use Rattle.outside_dm.proofs.files.FileList.lacks.Goals as goal
 

@@ -1,4 +1,3 @@
-use Rattle.std.proofs.Common.{◌≡◌}
 use Rattle.std.specs.Prelude.{is_ok}
 use Rattle.outside_dm.proofs.Named.{HasDistinctNames-pushed}
 use Rattle.outside_dm.proofs.files.FileList.push.Goals as goal

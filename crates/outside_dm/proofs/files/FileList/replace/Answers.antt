@@ -1,8 +1,7 @@
-use Rattle.std.proofs.Common.{◌≡◌, ◌∙◌, sym, ap, List, ℕ}
+use Rattle.std.proofs.Common.{◌∙◌, ap, List, ℕ}
 use Rattle.std.specs.FinMap.{insert}
 use Rattle.std.specs.Prelude.{is_ok}
 use Rattle.outside_dm.specs.Files.{files_of, name_of}
-use Rattle.outside_dm.specs.declared.files.NamedFile.{NamedFile}
 use Rattle.outside_dm.proofs.Named.{HasDistinctNames-set, HasDistinctNames-pushed, files_of-set, files_of-push, get_or-at}
 use Rattle.outside_dm.proofs.files.FileList.replace.Goals as goal
 
