@@ -1,0 +1,6 @@
+mod Ascii
+mod Escapes
+mod RowLabels
+mod Utf8
+mod Words
+mod Yielded

@@ -1,0 +1,6 @@
+pub mod Characters
+pub mod IriSafe
+pub mod Literals
+pub mod Namespaces
+pub mod Statements
+pub mod Terminals
