@@ -28,7 +28,7 @@ pub and_parts : (a b : Bool) → (a && b) ≡ true → (a ≡ true) × (b ≡ tr
 and_parts true b e = (refl, e)
 and_parts false b e = cc e
 
-apart : (b n : ℕ) → n < 128 → 128 ≤ b → eqb b n ≡ false
+pub apart : (b n : ℕ) → n < 128 → 128 ≤ b → eqb b n ≡ false
 apart b n small large = ne_eqb b n (λ e. let bad : ⊥ = omega arith in bad)
 
 apart' : (b n : ℕ) → n < 128 → 128 ≤ b → eqb n b ≡ false

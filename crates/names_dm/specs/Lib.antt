@@ -1,6 +1,7 @@
 pub mod Characters
 pub mod IriSafe
 pub mod Literals
+pub mod Names
 pub mod Namespaces
 pub mod Statements
 pub mod Terminals

@@ -2,7 +2,7 @@
 -- the names of variables.
 use Rattle.std.specs.Prelude.{ℕ, ◌==◌, ◌||◌, ◌&&◌, Bool, false, not, List, [], ◌∷◌, if◌then◌else◌}
 use Rattle.std.specs.List.{list_any, list_all}
-use Rattle.names_dm.specs.Characters.{between, is_ascii_digit, is_ascii_letter}
+use Rattle.names_dm.specs.Characters.{between, is_ascii, is_ascii_digit, is_ascii_letter}
 
 -- IRIREF: a control, a space, or one of `<`, `>`, `"`, `{`, `}`, `|`, `^`, the grave accent and `\`
 abbrev pub is_forbidden : ℕ → Bool
@@ -11,6 +11,10 @@ is_forbidden c = between 0 32 c || (c == 60) || (c == 62) || (c == 34) || (c == 
 -- IRIREF: what stands between the brackets, its escapes read
 unfoldable pub is_iri : List ℕ → Bool
 is_iri text = not (list_any is_forbidden text)
+
+-- an ASCII character that an IRI can hold
+abbrev pub is_mark : ℕ → Bool
+is_mark c = is_ascii c && not (is_forbidden c)
 
 -- PN_CHARS_BASE
 abbrev pub is_pn_base : ℕ → Bool

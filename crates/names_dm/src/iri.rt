@@ -66,6 +66,14 @@ impl Iri {
         }
     }
 
+    // The IRI of a text that is one's.
+    pub(crate) fn of_grammar(text: Text) -> Iri
+        requires { IsTrue (is_iri text) }
+        ensures { result ≡ text }
+    {
+        Iri { text }
+    }
+
     /// The characters.
     pub fn as_str(&self) -> &str
         ensures bytes { result.now ≡ encode_utf8_all self.now }

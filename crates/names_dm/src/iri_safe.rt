@@ -44,7 +44,8 @@ fn push_safe_character(out: &mut String, c: char) -> Result<(), AllocError>
 
 // Adds the safe form of a text.
 pub(crate) fn push_safe(out: &mut String, text: &str) -> Result<(), AllocError>
-    ensures { OnOk result (string_bytes out.new ≡ string_bytes out.old ++ encode_utf8_all (safe_form (chars text.now))) }
+    ensures bytes { OnOk result (string_bytes out.new ≡ string_bytes out.old ++ encode_utf8_all (safe_form (chars text.now))) }
+    ensures chars { OnOk result (chars (string_bytes out.new) ≡ chars (string_bytes out.old) ++ safe_form (chars text.now)) }
 {
     for c in text.chars() {
         push_safe_character(out, c)?;
