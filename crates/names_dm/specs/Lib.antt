@@ -1,4 +1,5 @@
 pub mod Characters
+pub mod Decided
 pub mod IriSafe
 pub mod Literals
 pub mod Names
