@@ -1,0 +1,7 @@
+mod Ascii
+mod Escapes
+mod RowLabels
+mod SafeForms
+mod Utf8
+mod Words
+mod Yielded

@@ -1,0 +1,33 @@
+//! The terms and triples of RDF, and the names of tables, columns, keys and rows in it.
+#![tactic(auto)]
+
+mod base;
+mod characters;
+mod exact;
+mod iri;
+mod iri_safe;
+mod label;
+mod literal;
+mod makers;
+mod spelling;
+mod tag;
+mod term;
+mod triple;
+mod var;
+
+pub use base::{BadBase, Base};
+pub use iri::Iri;
+pub use iri_safe::safe;
+pub use makers::{column_iri, table_iri};
+pub use label::{Label, row_label};
+pub use literal::{Literal, LiteralType};
+pub use tag::Tag;
+pub use term::Term;
+pub use triple::Triple;
+pub use var::Var;
+
+/// Triples in order.
+pub type Triples = value_dm::Sequence<Triple>;
+
+/// Names of variables in order.
+pub type Vars = value_dm::Sequence<Var>;
