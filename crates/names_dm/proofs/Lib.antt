@@ -4,4 +4,4 @@ mod RowLabels
 mod SafeForms
 mod Utf8
 mod Words
-mod Yielded
+pub mod Yielded
