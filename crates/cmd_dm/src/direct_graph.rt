@@ -128,7 +128,7 @@ fn put_type<K: Sink>(
     ensures { Writes (triple_text (type_triple base.now table.now i)) (K.state out.old) (K.state out.new) result }
 {
     match type_triple(alloc, base, table, i) {
-        Ok(triple) => write_triple(alloc, &triple, out),
+        Ok(row_type) => write_triple(alloc, &row_type, out),
         Err(_) => Err(PutError::Memory),
     }
 }
