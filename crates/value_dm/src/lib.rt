@@ -2,16 +2,28 @@
 #![tactic(auto)]
 
 mod bytes;
+mod calendar;
 mod copies;
+mod decimal;
+mod errors;
 mod exact;
+mod field;
+mod kind;
 mod sequence;
 mod text;
+mod value;
 
 pub use bytes::Bytes;
+pub use calendar::{Date, DateTime, Time};
 pub use copies::TryCopy;
+pub use decimal::Decimal;
+pub use errors::{LexicalError, ValueError};
 pub use exact::{ExactEq, same};
+pub use field::NullMode;
+pub use kind::Kind;
 pub use sequence::{AllocFailed, Sequence};
 pub use text::Text;
+pub use value::{Cell, Cells, Value};
 
 /// Texts in order.
 pub type Names = Sequence<Text>;
