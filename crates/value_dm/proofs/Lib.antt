@@ -1,2 +1,5 @@
 pub mod FixedDigits
 pub mod Numerals
+pub mod NumberTexts
+pub mod DecimalValues
+pub mod IntegerTexts

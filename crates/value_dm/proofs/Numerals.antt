@@ -1,5 +1,8 @@
 -- What digits write, and where they end.
-use Rattle.std.proofs.Common.{◌≡◌, ℕ, suc, zero, ◌+◌, ◌*◌, ◌%◌, ◌^◌, ◌<◌, List, [], ◌∷◌, ◌++◌, length, refl, ap, ◌∙◌, arith}
+use Rattle.std.proofs.Common.{◌≡◌, ◌≤◌, ℕ, suc, zero, ◌+◌, ◌*◌, ◌%◌, ◌^◌, ◌<◌, List, [], ◌∷◌, ◌++◌, length, refl, ap, ◌∙◌, arith, take, get_or, append_assoc}
+use Rattle.std.proofs.lemmas.List.{take_more}
+use Rattle.std.proofs.lemmas.Str.{digit_value_digit}
+use Rattle.std.proofs.lemmas.Str.Parse.{digit_at}
 use Rattle.std.specs.Prelude.{replicate}
 use Rattle.std.specs.Char.{digit_value}
 use Rattle.std.specs.Str.Parse.{AllDigits, digits_value, digits_value_after}
@@ -26,7 +29,7 @@ pub AllDigits-back : (xs ys : List ℕ) → AllDigits 10 (xs ++ ys) → AllDigit
 AllDigits-back [] ys a = a
 AllDigits-back (x ∷ xs) ys a = AllDigits-back xs ys a.1
 
-digits_value_after-append : (n : ℕ) (xs ys : List ℕ) → digits_value_after 10 n (xs ++ ys) ≡ digits_value_after 10 (digits_value_after 10 n xs) ys
+pub digits_value_after-append : (n : ℕ) (xs ys : List ℕ) → digits_value_after 10 n (xs ++ ys) ≡ digits_value_after 10 (digits_value_after 10 n xs) ys
 digits_value_after-append n [] ys = refl
 digits_value_after-append n (x ∷ xs) ys = digits_value_after-append (n * 10 + digit_value x) xs ys
 
@@ -48,7 +51,7 @@ digits_value-zeros : (k : ℕ) → digits_value 10 (replicate k 48) ≡ 0
 digits_value-zeros zero = refl
 digits_value-zeros (suc k) = digits_value-zeros k
 
-length-zeros : (k : ℕ) → length {A = ℕ} (replicate k 48) ≡ k
+pub length-zeros : (k : ℕ) → length {A = ℕ} (replicate k 48) ≡ k
 length-zeros zero = refl
 length-zeros (suc k) = ap suc (length-zeros k)
 
@@ -93,3 +96,27 @@ shortest_same a b (suc s) (suc t) p q e =
     let tenth : a * 10 ^ t ≡ b * 10 ^ s = omega (arith, regroup_tens a (10 ^ t), regroup_tens b (10 ^ s)) in
     let both = shortest_same a b s t (λ _. odd_a) (λ _. odd_b) tenth in
     (both.0, ap suc both.1)
+
+pub digits_value_after-ge : (n : ℕ) (ds : List ℕ) → n ≤ digits_value_after 10 n ds
+digits_value_after-ge n [] = omega arith
+digits_value_after-ge n (c ∷ cs) = let more = digits_value_after-ge (n * 10 + digit_value c) cs in omega arith
+
+-- fewer digits write no greater number
+pub digits_value_after-take-le : (n : ℕ) (ds : List ℕ) (k : ℕ) → digits_value_after 10 n (take k ds) ≤ digits_value_after 10 n ds
+digits_value_after-take-le n ds zero = digits_value_after-ge n ds
+digits_value_after-take-le n [] (suc k) = omega arith
+digits_value_after-take-le n (c ∷ cs) (suc k) = digits_value_after-take-le (n * 10 + digit_value c) cs k
+
+pub digits_value_after-more : (n : ℕ) (ds : List ℕ) (i : ℕ) → i < length ds
+    → digits_value_after 10 n (take (i + 1) ds) ≡ digits_value_after 10 n (take i ds) * 10 + digit_value (get_or ds i 0)
+digits_value_after-more n ds i h =
+    ap (digits_value_after 10 n) (take_more ds i 0 h)
+    ∙ digits_value_after-append n (take i ds) (get_or ds i 0 ∷ [])
+
+pub digit_at_value : (ds : List ℕ) (i : ℕ) → AllDigits 10 ds → i < length ds → (digit_value (get_or ds i 0) + 48 ≡ get_or ds i 0) × (get_or ds i 0 < 58)
+digit_at_value ds i all h =
+    let range = digit_at ds i all h in (digit_value_digit (get_or ds i 0) range, omega arith)
+
+-- a zero more at the end
+pub replicate-end : (front : List ℕ) (k : ℕ) → (front ++ 48 ∷ []) ++ replicate k 48 ≡ front ++ replicate (suc k) 48
+replicate-end front k = append_assoc front (48 ∷ []) (replicate k 48)

@@ -1,7 +1,8 @@
 ghost use Rattle.std.specs.Prelude.{◌≡◌, ◌%◌, ◌^◌, ◌<◌, ◌≤◌, ◌↔◌, unsigned_abs, IsSome, IfSome};
 ghost use Rattle.value_dm.specs.Decimals.{IsDecimal};
 
-const MOST_DIGITS: u128 = 10_000_000_000_000_000_000_000_000_000_000_000_000;
+// The least number of 39 digits.
+pub const DIGITS_LIMIT: u128 = 100_000_000_000_000_000_000_000_000_000_000_000_000;
 
 /// A decimal number of at most 38 digits: the coefficient divided by 10 to the power of the scale.
 ///
@@ -25,7 +26,7 @@ impl Decimal {
         ensures value { IfSome result (λ made. (made.coefficient ≡ coefficient) × (made.scale ≡ scale)) }
     {
         let digits = coefficient.unsigned_abs();
-        if digits >= 10 * MOST_DIGITS || scale > 38 || (scale > 0 && digits % 10 == 0) {
+        if digits >= DIGITS_LIMIT || scale > 38 || (scale > 0 && digits % 10 == 0) {
             return None;
         }
         Some(Decimal { coefficient, scale })
