@@ -11,7 +11,7 @@ use Rattle.value_dm.specs.Sameness.{decimal_same}
 use Rattle.value_dm.specs.declared.decimal.Decimal.{Decimal}
 use Rattle.value_dm.proofs.Numerals.{ten_power, shortest_same, digits_value-append_zeros, digit_at_value, length-zeros}
 
-cancel_tens : (k x y : ℕ) → x * 10 ^ k ≡ y * 10 ^ k → x ≡ y
+pub cancel_tens : (k x y : ℕ) → x * 10 ^ k ≡ y * 10 ^ k → x ≡ y
 cancel_tens zero x y e = omega (arith, e)
 cancel_tens (suc k) x y e =
     let long : x * (10 * 10 ^ k) ≡ y * (10 * 10 ^ k) = rw ten_power at e in

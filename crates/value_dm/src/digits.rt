@@ -1,6 +1,7 @@
 ghost use Rattle.std.specs.Prelude.{◌≡◌, ◌≢◌, ℕ, ◌++◌, ◌∷◌, [], ◌^◌, ◌<◌, ◌≤◌, List, length, MatchOption, replicate};
-ghost use Rattle.std.specs.Str.Parse.{AllDigits, digits_value_after, starts_with_minus, without_leading_sign};
-ghost use Rattle.value_dm.specs.Reading.{BeginsWithNoDigit};
+ghost use Rattle.std.specs.Str.Parse.{AllDigits, digits_value, digits_value_after, starts_with_minus, without_leading_sign};
+ghost use Rattle.value_dm.specs.Digits.{fixed_digits};
+ghost use Rattle.value_dm.specs.Reading.{BeginsWithNoDigit, three_numbers_onto};
 
 use crate::decimal::DIGITS_LIMIT;
 
@@ -57,4 +58,76 @@ pub fn append_digits(number: u128, digits: &[u8]) -> Option<u128>
         appended = appended * 10 + (*byte - b'0') as u128;
     }
     Some(appended)
+}
+
+// The number that the digits write. None where one of them is no digit.
+pub fn number_of(digits: &[u8]) -> Option<u32>
+    requires { length digits.now ≤ 9 }
+    ensures { MatchOption result (¬ AllDigits 10 digits.now)
+        (λ number. AllDigits 10 digits.now × (number ≡ digits_value 10 digits.now) × (number < 10 ^ length digits.now)) }
+{
+    let (read, other) = split_digits(digits);
+    if other.len() > 0 {
+        return None;
+    }
+    match append_digits(0, read) {
+        Some(number) => Some(number as u32),
+        None => None,
+    }
+}
+
+// The number of the first digits, so many as `count`, and what follows them.
+pub fn take_number(text: &[u8], count: usize) -> Option<(u32, &[u8])>
+    requires { count ≤ 9 }
+    ensures { MatchOption result
+        ((n : ℕ) (rest : List ℕ) → n < 10 ^ count → text.now ≢ fixed_digits count n ++ rest)
+        (λ read. (read.0 < 10 ^ count) × (text.now ≡ fixed_digits count read.0 ++ read.1.now)) }
+{
+    if text.len() < count {
+        return None;
+    }
+    match number_of(&text[..count]) {
+        Some(number) => Some((number, &text[count..])),
+        None => None,
+    }
+}
+
+// The number of the two digits behind the separator, and what follows them.
+pub fn take_pair(text: &[u8], separator: u8) -> Option<(u32, &[u8])>
+    ensures { MatchOption result
+        ((n : ℕ) (rest : List ℕ) → n < 100 → text.now ≢ separator ∷ (fixed_digits 2 n ++ rest))
+        (λ read. (read.0 < 100) × (text.now ≡ separator ∷ (fixed_digits 2 read.0 ++ read.1.now))) }
+{
+    if text.len() == 0 {
+        return None;
+    }
+    if text[0] != separator {
+        return None;
+    }
+    match take_number(&text[1..], 2) {
+        Some(read) => Some(read),
+        None => None,
+    }
+}
+
+// A number of so many digits and two numbers of two, each of these behind the separator, and what follows them.
+pub fn take_three(text: &[u8], count: usize, separator: u8) -> Option<(u32, u32, u32, &[u8])>
+    requires { count ≤ 9 }
+    ensures { MatchOption result
+        ((a b c : ℕ) (rest : List ℕ) → a < 10 ^ count → b < 100 → c < 100 →
+        text.now ≢ three_numbers_onto count separator a b c rest)
+        (λ read.
+        (read.0 < 10 ^ count) × (read.1 < 100) × (read.2 < 100)
+        × (text.now ≡ three_numbers_onto count separator read.0 read.1 read.2 read.3.now)) }
+{
+    let Some((first, behind_first)) = take_number(text, count) else {
+        return None;
+    };
+    let Some((second, behind_second)) = take_pair(behind_first, separator) else {
+        return None;
+    };
+    match take_pair(behind_second, separator) {
+        Some((third, rest)) => Some((first, second, third, rest)),
+        None => None,
+    }
 }

@@ -1,8 +1,11 @@
 //! Texts, bytes, lists and values, which every other crate speaks of.
 #![tactic(auto)]
 
+mod binary;
+mod boolean;
 mod bytes;
 mod calendar;
+mod calendar_text;
 mod copies;
 mod decimal;
 mod digits;

@@ -47,7 +47,7 @@ fn split_number(text: &[u8]) -> Option<(bool, &[u8], &[u8])>
 }
 
 // The digits after a point. None where there is anything else.
-fn split_fraction(text: &[u8]) -> Option<&[u8]>
+pub fn split_fraction(text: &[u8]) -> Option<&[u8]>
     ensures { MatchOption result
         ((point fraction : List ℕ) → IsPoint point fraction → AllDigits 10 fraction → text.now ≢ point ++ fraction)
         (λ digits. (point : List ℕ) × IsPoint point digits.now × AllDigits 10 digits.now × (text.now ≡ point ++ digits.now)) }
