@@ -11,3 +11,4 @@ pub mod Ascii
 pub mod Values
 pub mod Written
 pub mod Texts
+pub mod CanonicalFields
