@@ -1,0 +1,14 @@
+pub mod FixedDigits
+pub mod Numerals
+pub mod NumberTexts
+pub mod DecimalValues
+pub mod IntegerTexts
+pub mod Fronts
+pub mod Times
+pub mod Binaries
+pub mod CanonicalForms
+pub mod Ascii
+pub mod Values
+pub mod Written
+pub mod Texts
+pub mod CanonicalFields
