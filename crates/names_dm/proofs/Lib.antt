@@ -1,5 +1,7 @@
 mod Ascii
 mod Escapes
+mod Lists
+mod ReadBack
 mod RowLabels
 mod SafeForms
 mod Utf8

@@ -4,5 +4,7 @@ pub mod IriSafe
 pub mod Literals
 pub mod Names
 pub mod Namespaces
+pub mod Reading
 pub mod Statements
 pub mod Terminals
+pub mod Variables
