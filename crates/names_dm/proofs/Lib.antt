@@ -1,9 +1,11 @@
 mod Ascii
 mod Escapes
 mod Lists
+mod Parts
 mod ReadBack
 mod RowLabels
 mod SafeForms
+mod Told
 mod Utf8
 mod Words
 mod Yielded

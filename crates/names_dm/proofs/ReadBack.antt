@@ -99,6 +99,7 @@ unfolding decoded
 decoded-safe_form text = ap chars (decode_form text) ∙ chars-encodes_any text
 
 pub unsafe_form-safe_form : (text : List ℕ) → unsafe_form (safe_form text) ≡ Some text
+unfolding unsafe_form
 unsafe_form-safe_form text =
     rw (decoded-safe_form text, (bytes_decides (safe_form text) (safe_form text)).1 refl) refl
 
@@ -107,6 +108,7 @@ chosen true found text e = (refl, cc e)
 chosen false found text e = cc e
 
 pub safe_form-unsafe_form : (form text : List ℕ) → unsafe_form form ≡ Some text → safe_form text ≡ form
+unfolding unsafe_form
 safe_form-unsafe_form form text told =
     let h = chosen (pointwise nat_eq (safe_form (decoded form)) form) (decoded form) text told in
     ap safe_form (sym h.1) ∙ (bytes_decides (safe_form (decoded form)) form).0 h.0

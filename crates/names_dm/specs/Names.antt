@@ -30,7 +30,7 @@ column_list columns = join_with_byte semicolon (map safe_form columns)
 
 -- `T#ref-A;B`
 abbrev pub ref_part : RefName → List ℕ
-ref_part name = safe_form name.table ++ number_sign ∷ codes "ref-" ++ column_list name.columns
+ref_part name = safe_form name.table ++ number_sign ∷ (codes "ref-" ++ column_list name.columns)
 
 -- `A=C`
 abbrev pub pairing : List ℕ → List ℕ → List ℕ
@@ -38,7 +38,8 @@ pairing column target = safe_form column ++ equals_sign ∷ safe_form target
 
 -- `T#rel-A=C;B=D`
 abbrev pub rel_part : RelName → List ℕ
-rel_part name = safe_form name.table ++ number_sign ∷ codes "rel-" ++ pairing name.left name.left_target ++ semicolon ∷ pairing name.right name.right_target
+rel_part name =
+    safe_form name.table ++ number_sign ∷ (codes "rel-" ++ (pairing name.left name.left_target ++ semicolon ∷ pairing name.right name.right_target))
 
 abbrev pub table_iri : List ℕ → List ℕ → List ℕ
 table_iri base table = base ++ table_part table
