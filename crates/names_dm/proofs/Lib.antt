@@ -1,11 +1,16 @@
 mod Ascii
+mod Cuts
 mod Escapes
 mod Lists
+mod Marks
 mod Parts
+mod Read
 mod ReadBack
 mod RowLabels
 mod SafeForms
+mod TextLists
 mod Told
 mod Utf8
+mod VariableLaws
 mod Words
 mod Yielded

@@ -125,17 +125,29 @@ some_same x y e = cc
 joined_parts : (base iri a b x y : List ℕ) → a ≡ x → b ≡ y → base ++ (x ++ number_sign ∷ y) ≡ iri → base ++ (a ++ number_sign ∷ b) ≡ iri
 joined_parts base iri a b x y one other whole = rw (one, other) whole
 
+-- both safe forms are those of the pair
+both_forms : (parts pair : List ℕ × List ℕ) → ◌≡◌ {A = Option (List ℕ × List ℕ)} (both_texts parts) (Some pair) → (safe_form pair.0 ≡ parts.0) × (safe_form pair.1 ≡ parts.1)
+both_forms parts pair told =
+    let one = told_by (λ one. option_and_then (λ other. Some (one, other)) (unsafe_form parts.1)) (unsafe_form parts.0) pair told in
+    let other = told_by (λ other. Some (one.0, other)) (unsafe_form parts.1) pair one.2 in
+    let made : List ℕ × List ℕ = (one.0, other.0) in
+    let same : made ≡ pair = some_same made pair other.2 in
+    (
+      ap (λ (p : List ℕ × List ℕ). safe_form p.0) (sym same) ∙ safe_form-unsafe_form parts.0 one.0 one.1,
+      ap (λ (p : List ℕ × List ℕ). safe_form p.1) (sym same) ∙ safe_form-unsafe_form parts.1 other.0 other.1,
+    )
+
 pub column_iri-told : (base iri : List ℕ) (name : ColumnName) → told_column base iri ≡ Some name → column_iri base name ≡ iri
 unfolding told_column
 column_iri-told base iri name told =
     let parts = told_by column_of (local_parts base iri) name told in
-    let table = told_by (λ table. option_and_then (λ column. Some (record { table = table; column = column })) (unsafe_form parts.0.1)) (unsafe_form parts.0.0) name parts.2 in
-    let column = told_by (λ column. Some (record { table = table.0; column = column })) (unsafe_form parts.0.1) name table.2 in
-    let made : ColumnName = record { table = table.0; column = column.0 } in
-    let same : made ≡ name = some_same made name column.2 in
+    let column_name : List ℕ × List ℕ → Option ColumnName = λ pair. Some (record { table = pair.0; column = pair.1 }) in
+    let pair = told_by column_name (both_texts parts.0) name parts.2 in
+    let forms = both_forms parts.0 pair.0 pair.1 in
+    let made : ColumnName = record { table = pair.0.0; column = pair.0.1 } in
+    let same : made ≡ name = some_same made name pair.2 in
     ap (column_iri base) (sym same)
-    ∙ joined_parts base iri (safe_form table.0) (safe_form column.0) parts.0.0 parts.0.1 (safe_form-unsafe_form parts.0.0 table.0 table.1) (safe_form-unsafe_form parts.0.1 column.0 column.1)
-      (whole_of-local_parts base iri parts.0 parts.1)
+    ∙ joined_parts base iri (safe_form pair.0.0) (safe_form pair.0.1) parts.0.0 parts.0.1 forms.0 forms.1 (whole_of-local_parts base iri parts.0 parts.1)
 
 map-texts_of : (forms texts : List (List ℕ)) → texts_of forms ≡ Some texts → map safe_form texts ≡ forms
 map-texts_of [] texts told = ap (map safe_form) (sym (some_same [] texts told))
@@ -170,12 +182,8 @@ pairing-pairing_of : (text : List ℕ) (pair : List ℕ × List ℕ) → pairing
 unfolding pairing_of
 pairing-pairing_of text pair told =
     let parts = told_by both_texts (cut_at equals_sign text) pair told in
-    let column = told_by (λ column. option_and_then (λ target. Some (column, target)) (unsafe_form parts.0.1)) (unsafe_form parts.0.0) pair parts.2 in
-    let target = told_by (λ target. Some (column.0, target)) (unsafe_form parts.0.1) pair column.2 in
-    let made : List ℕ × List ℕ = (column.0, target.0) in
-    let same : made ≡ pair = some_same made pair target.2 in
-    ap (λ (p : List ℕ × List ℕ). pairing p.0 p.1) (sym same)
-    ∙ rw (safe_form-unsafe_form parts.0.0 column.0 column.1, safe_form-unsafe_form parts.0.1 target.0 target.1) (append-cut_at equals_sign text parts.0.0 parts.0.1 parts.1)
+    let forms = both_forms parts.0 pair parts.2 in
+    rw (forms.0, forms.1) (append-cut_at equals_sign text parts.0.0 parts.0.1 parts.1)
 
 -- both pairings, put together
 two_pairings : (List ℕ × List ℕ) × (List ℕ × List ℕ) → List ℕ

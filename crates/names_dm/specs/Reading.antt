@@ -1,5 +1,5 @@
 -- Which names an IRI tells: the inverse of the makers, as functions of the text.
-use Rattle.std.specs.Prelude.{ℕ, ◌==◌, ◌&&◌, Bool, true, false, not, List, [], ◌∷◌, Option, Some, None, if◌then◌else◌, codes, chars, encode_utf8_all, nat_eq, option_and_then}
+use Rattle.std.specs.Prelude.{ℕ, ◌==◌, ◌≡◌, ◌≢◌, IsTrue, MatchOption, ◌&&◌, Bool, true, false, not, List, [], ◌∷◌, Option, Some, None, if◌then◌else◌, codes, chars, encode_utf8_all, nat_eq, option_and_then}
 use Rattle.std.specs.Cmp.Lexicographic.{pointwise}
 use Rattle.std.specs.List.{list_all, slice_split}
 use Rattle.percent_encoding.specs.Percent.{percent_decode}
@@ -43,9 +43,12 @@ local_parts base iri = option_and_then (cut_at number_sign) (after base iri)
 unfoldable pub told_table : List ℕ → List ℕ → Option (List ℕ)
 told_table base iri = option_and_then unsafe_form (after base iri)
 
+-- the texts of which both are the safe forms
+abbrev pub both_texts : List ℕ × List ℕ → Option (List ℕ × List ℕ)
+both_texts parts = option_and_then (λ column. option_and_then (λ target. Some (column, target)) (unsafe_form parts.1)) (unsafe_form parts.0)
+
 abbrev pub column_of : List ℕ × List ℕ → Option ColumnName
-column_of parts =
-    option_and_then (λ table. option_and_then (λ column. Some (record { table = table; column = column })) (unsafe_form parts.1)) (unsafe_form parts.0)
+column_of parts = option_and_then (λ pair. Some (record { table = pair.0; column = pair.1 })) (both_texts parts)
 
 unfoldable pub told_column : List ℕ → List ℕ → Option ColumnName
 told_column base iri = option_and_then column_of (local_parts base iri)
@@ -67,9 +70,6 @@ unfoldable pub told_ref : List ℕ → List ℕ → Option RefName
 told_ref base iri = option_and_then ref_of (local_parts base iri)
 
 -- the texts on both sides of an equals sign
-abbrev pub both_texts : List ℕ × List ℕ → Option (List ℕ × List ℕ)
-both_texts parts = option_and_then (λ column. option_and_then (λ target. Some (column, target)) (unsafe_form parts.1)) (unsafe_form parts.0)
-
 unfoldable pub pairing_of : List ℕ → Option (List ℕ × List ℕ)
 pairing_of text = option_and_then both_texts (cut_at equals_sign text)
 
@@ -100,8 +100,13 @@ is_name (c ∷ cs) = not (c == 0xFEFF)
 abbrev pub is_column_name : ColumnName → Bool
 is_column_name name = is_name name.table && is_name name.column
 
+-- one or more names
+abbrev pub are_names : List (List ℕ) → Bool
+are_names [] = false
+are_names (name ∷ names) = is_name name && list_all is_name names
+
 abbrev pub is_ref_name : RefName → Bool
-is_ref_name name = is_name name.table && list_all is_name name.columns
+is_ref_name name = is_name name.table && are_names name.columns
 
 abbrev pub is_rel_name : RelName → Bool
 is_rel_name name = is_name name.table && is_name name.left && is_name name.left_target && is_name name.right && is_name name.right_target
@@ -122,3 +127,8 @@ read_ref base iri = only is_ref_name (told_ref base iri)
 
 unfoldable pub read_rel : List ℕ → List ℕ → Option RelName
 read_rel base iri = only is_rel_name (told_rel base iri)
+
+-- what is found is a name that passes the test and whose text this is; where nothing is found there is none
+abbrev pub Tells : {A : Type 0} → (A → Bool) → (A → List ℕ) → List ℕ → Option A → Type 0
+Tells {A} test made text found =
+    MatchOption found ((name : A) → IsTrue (test name) → made name ≢ text) (λ name. IsTrue (test name) × (made name ≡ text))
