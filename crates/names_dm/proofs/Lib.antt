@@ -3,6 +3,7 @@ mod Cuts
 mod Escapes
 mod Lists
 mod Marks
+mod NamesApart
 mod Parts
 mod Read
 mod ReadBack

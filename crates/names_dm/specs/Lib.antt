@@ -1,3 +1,4 @@
+pub mod Apart
 pub mod Characters
 pub mod Decided
 pub mod IriSafe

@@ -1,4 +1,5 @@
-ghost use Rattle.std.specs.Prelude.{◌≡◌, ◌++◌, [], ◌∷◌, IfOk, chars, if◌then◌else◌};
+ghost use Rattle.std.specs.Prelude.{◌≡◌, ◌++◌, [], ◌∷◌, IfOk, OnOk, chars, if◌then◌else◌};
+ghost use Rattle.names_dm.specs.Apart.{NamesApart};
 ghost use Rattle.names_dm.specs.Names.{column_iri, column_list, pairing, ref_iri, rel_iri, semicolon, table_iri};
 
 use crate::base::Base;
@@ -9,8 +10,10 @@ use std::alloc::{AllocError, Global};
 use value_dm::{Names, Text};
 
 /// The IRI of a table, which names its class: the base and the safe form of its name. Refused for want of memory alone.
+#[tactic(auto, using(crate::proofs::NamesApart::names_apart))]
 pub fn table_iri(alloc: Global, base: &Base, table: &str) -> Result<Iri, AllocError>
-    ensures { IfOk result (λ iri. iri ≡ table_iri base.now (chars table.now)) }
+    ensures text { IfOk result (λ iri. iri ≡ table_iri base.now (chars table.now)) }
+    ensures apart { OnOk result (NamesApart base.now) }
 {
     Spelling::new(alloc, base)?
         .with_safe(table)?
@@ -18,13 +21,15 @@ pub fn table_iri(alloc: Global, base: &Base, table: &str) -> Result<Iri, AllocEr
 }
 
 /// The IRI of a column: its table's, `#` and the safe form of its name. Refused for want of memory alone.
+#[tactic(auto, using(crate::proofs::NamesApart::names_apart))]
 pub fn column_iri(
     alloc: Global,
     base: &Base,
     table: &str,
     column: &str,
 ) -> Result<Iri, AllocError>
-    ensures { IfOk result (λ iri. iri ≡ column_iri base.now record { table = chars table.now; column = chars column.now }) }
+    ensures text { IfOk result (λ iri. iri ≡ column_iri base.now record { table = chars table.now; column = chars column.now }) }
+    ensures apart { OnOk result (NamesApart base.now) }
 {
     Spelling::new(alloc, base)?
         .with_safe(table)?
@@ -57,13 +62,15 @@ fn with_columns(spelling: Spelling, columns: &Names) -> Result<Spelling, AllocEr
 
 /// The IRI of a reference: its table's, `#ref-` and the safe names of the key's columns in its order, semicolons between
 /// them. Refused for want of memory alone.
+#[tactic(auto, using(crate::proofs::NamesApart::names_apart))]
 pub fn ref_iri(
     alloc: Global,
     base: &Base,
     table: &str,
     columns: &Names,
 ) -> Result<Iri, AllocError>
-    ensures { IfOk result (λ iri. iri ≡ ref_iri base.now record { table = chars table.now; columns = columns.now }) }
+    ensures text { IfOk result (λ iri. iri ≡ ref_iri base.now record { table = chars table.now; columns = columns.now }) }
+    ensures apart { OnOk result (NamesApart base.now) }
 {
     let start = Spelling::new(alloc, base)?
         .with_safe(table)?
@@ -83,8 +90,10 @@ fn with_pairing(spelling: Spelling, column: &Text, target: &Text) -> Result<Spel
 
 /// The IRI of a relation: its table's, `#rel-` and the two columns, each with `=` and the one that it references, a
 /// semicolon between them. Refused for want of memory alone.
+#[tactic(auto, using(crate::proofs::NamesApart::names_apart))]
 pub fn rel_iri(alloc: Global, base: &Base, name: &RelName) -> Result<Iri, AllocError>
-    ensures { IfOk result (λ iri. iri ≡ rel_iri base.now name.now) }
+    ensures text { IfOk result (λ iri. iri ≡ rel_iri base.now name.now) }
+    ensures apart { OnOk result (NamesApart base.now) }
 {
     let start = Spelling::new(alloc, base)?
         .with_safe(name.table.as_str())?
