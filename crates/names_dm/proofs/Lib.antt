@@ -4,6 +4,7 @@ mod Escapes
 mod Lists
 mod Marks
 mod NamesApart
+mod NamingInstance
 mod Parts
 mod Read
 mod ReadBack

@@ -13,7 +13,7 @@ use Rattle.names_dm.proofs.Parts.{after-append, append-after, append-cut_at, cut
 use Rattle.names_dm.proofs.ReadBack.{safe_form-unsafe_form, unsafe_form-safe_form}
 use Rattle.names_dm.proofs.SafeForms.{all_in_safe, in_safe}
 
-number_sign_out : in_safe number_sign ≡ false
+pub number_sign_out : in_safe number_sign ≡ false
 unfolding stays
 number_sign_out = refl
 
