@@ -72,11 +72,11 @@ seam c (x ∷ xs) ys [] back none same =
 seam c (x ∷ xs) ys (y ∷ front) back none same = elim (cases_Bool (eqb x c)) [
   | inl bad ↦ cc (rw bad at none)
   | inr other ↦
-    let head : x ≡ y = cc in
-    let tail : xs ++ ys ≡ front ++ c ∷ back = cc in
-    let m = seam c xs ys front back (rw other at none) tail in
-    let back_head : y ≡ x = sym head in
-    (m.0, (λ i. back_head i ∷ m.1 i), m.2)
+      let head : x ≡ y = cc in
+      let tail : xs ++ ys ≡ front ++ c ∷ back = cc in
+      let m = seam c xs ys front back (rw other at none) tail in
+      let back_head : y ≡ x = sym head in
+      (m.0, (λ i. back_head i ∷ m.1 i), m.2)
 ]
 
 empty_front : (c : ℕ) (rest front back : List ℕ) → lacks c front ≡ true → c ∷ rest ≡ front ++ c ∷ back → (front ≡ []) × (rest ≡ back)
@@ -94,23 +94,23 @@ pub cut_found : (c : ℕ) (cs front back : List ℕ) → c < 128 → lacks c fro
 cut_found c [] front back small none same = absurd (nothing_joined c front back same)
 cut_found c (d ∷ ds) front back small none same = elim (cases_Bool (eqb d c)) [
   | inl mark ↦
-    let here : d ≡ c = eqb-true d c mark in
-    let one : encode_utf8 d ≡ c ∷ [] = rw here (encode_one c small) in
-    let h = empty_front c (encode_utf8_all ds) front back none (sym (ap (λ (t : List ℕ). t ++ encode_utf8_all ds) one) ∙ same) in
-    rw (mark, h.0, ← h.1, chars-nil, chars-encodes_any ds) refl
+      let here : d ≡ c = eqb-true d c mark in
+      let one : encode_utf8 d ≡ c ∷ [] = rw here (encode_one c small) in
+      let h = empty_front c (encode_utf8_all ds) front back none (sym (ap (λ (t : List ℕ). t ++ encode_utf8_all ds) one) ∙ same) in
+      rw (mark, h.0, ← h.1, chars-nil, chars-encodes_any ds) refl
   | inr other ↦
-    let m = seam c (encode_utf8 d) (encode_utf8_all ds) front back (encode_lacks c d small other) same in
-    let rest = cut_found c ds m.0 back small (lacks_right c (encode_utf8 d) m.0 (ap (lacks c) (sym m.1) ∙ none)) m.2 in
-    let fronts : d ∷ chars m.0 ≡ chars front = sym (ap chars m.1 ∙ chars-encode d m.0) in
-    rw (other, rest) (λ i. Some (fronts i, chars back))
+      let m = seam c (encode_utf8 d) (encode_utf8_all ds) front back (encode_lacks c d small other) same in
+      let rest = cut_found c ds m.0 back small (lacks_right c (encode_utf8 d) m.0 (ap (lacks c) (sym m.1) ∙ none)) m.2 in
+      let fronts : d ∷ chars m.0 ≡ chars front = sym (ap chars m.1 ∙ chars-encode d m.0) in
+      rw (other, rest) (λ i. Some (fronts i, chars back))
 ]
 
 pub cut_lacking : (c : ℕ) (cs : List ℕ) → c < 128 → lacks c (encode_utf8_all cs) ≡ true → ◌≡◌ {A = Option (List ℕ × List ℕ)} (cut_at c cs) None
 cut_lacking c [] small none = refl
 cut_lacking c (d ∷ ds) small none = elim (cases_Bool (eqb d c)) [
   | inl mark ↦
-    let one : encode_utf8 d ≡ c ∷ [] = ap encode_utf8 (eqb-true d c mark) ∙ encode_one c small in
-    cc (rw (one, eqb-same c) at none)
+      let one : encode_utf8 d ≡ c ∷ [] = ap encode_utf8 (eqb-true d c mark) ∙ encode_one c small in
+      cc (rw (one, eqb-same c) at none)
   | inr other ↦ rw (other, cut_lacking c ds small (lacks_right c (encode_utf8 d) (encode_utf8_all ds) none)) refl
 ]
 

@@ -64,7 +64,7 @@ table_is_no_local base table other rest same =
 same_local : (base t a u b : List ℕ) → base ++ (safe_form t ++ number_sign ∷ a) ≡ base ++ (safe_form u ++ number_sign ∷ b) → (safe_form t ≡ safe_form u) × (a ≡ b)
 same_local base t a u b same =
     let e : ◌≡◌ {A = Option (List ℕ × List ℕ)} (Some (safe_form t, a)) (Some (safe_form u, b)) =
-        sym (local_parts-append base t a) ∙ ap (local_parts base) same ∙ local_parts-append base u b in
+    sym (local_parts-append base t a) ∙ ap (local_parts base) same ∙ local_parts-append base u b in
     let r : ◌≡◌ {A = List ℕ × List ℕ} (safe_form t, a) (safe_form u, b) = cc in
     (ap (λ (p : List ℕ × List ℕ). p.0) r, ap (λ (p : List ℕ × List ℕ). p.1) r)
 
@@ -78,18 +78,19 @@ column_is_ref : (base : List ℕ) (a : ColumnName) (b : RefName) → b.columns �
 column_is_ref base a b some same = go b.columns refl where
   parts : (safe_form a.table ≡ safe_form b.table) × (safe_form a.column ≡ codes "ref-" ++ column_list b.columns)
   parts = same_local base a.table (safe_form a.column) b.table (codes "ref-" ++ column_list b.columns) same
+
   go : (columns : List (List ℕ)) → b.columns ≡ columns
       → (column : List ℕ) × (b.columns ≡ column ∷ []) × (a ≡ record { table = b.table; column = codes "ref-" ++ column })
   go [] e = absurd (some e)
   go (column ∷ []) e =
       let table = safe_form-injective a.table b.table parts.0 in
       let name : a.column ≡ codes "ref-" ++ column =
-          safe_form-injective a.column (codes "ref-" ++ column) (parts.1 ∙ ap (λ (t : List (List ℕ)). codes "ref-" ++ column_list t) e ∙ sym (ref_mark_safe column)) in
+      safe_form-injective a.column (codes "ref-" ++ column) (parts.1 ∙ ap (λ (t : List (List ℕ)). codes "ref-" ++ column_list t) e ∙ sym (ref_mark_safe column)) in
       (column, e, λ i. record { table = table i; column = name i })
   go (column ∷ next ∷ columns) e =
       absurd (
-        no_mark semicolon a.column (codes "ref-" ++ safe_form column) (column_list (next ∷ columns)) semicolon_out
-          (parts.1 ∙ ap (λ (t : List (List ℕ)). codes "ref-" ++ column_list t) e ∙ sym (append_assoc (codes "ref-") (safe_form column) (semicolon ∷ column_list (next ∷ columns))))
+      no_mark semicolon a.column (codes "ref-" ++ safe_form column) (column_list (next ∷ columns)) semicolon_out
+      (parts.1 ∙ ap (λ (t : List (List ℕ)). codes "ref-" ++ column_list t) e ∙ sym (append_assoc (codes "ref-") (safe_form column) (semicolon ∷ column_list (next ∷ columns))))
       )
 
 column_is_no_rel : (base : List ℕ) (a : ColumnName) (b : RelName) → column_iri base a ≡ rel_iri base b → ⊥
@@ -97,9 +98,9 @@ column_is_no_rel base a b same =
     let right = semicolon ∷ pairing b.right b.right_target in
     let parts = same_local base a.table (safe_form a.column) b.table (codes "rel-" ++ (pairing b.left b.left_target ++ right)) same in
     no_mark equals_sign a.column (codes "rel-" ++ safe_form b.left) (safe_form b.left_target ++ right) equals_sign_out (
-      parts.1
-      ∙ ap (λ (t : List ℕ). codes "rel-" ++ t) (append_assoc (safe_form b.left) (equals_sign ∷ safe_form b.left_target) right)
-      ∙ sym (append_assoc (codes "rel-") (safe_form b.left) (equals_sign ∷ (safe_form b.left_target ++ right)))
+    parts.1
+    ∙ ap (λ (t : List ℕ). codes "rel-" ++ t) (append_assoc (safe_form b.left) (equals_sign ∷ safe_form b.left_target) right)
+    ∙ sym (append_assoc (codes "rel-") (safe_form b.left) (equals_sign ∷ (safe_form b.left_target ++ right)))
     )
 
 marks_differ : (a b : List ℕ) → codes "ref-" ++ a ≡ codes "rel-" ++ b → ⊥
@@ -108,7 +109,7 @@ marks_differ a b same = let h : true ≡ false = ap (λ (t : List ℕ). eqb (get
 ref_is_no_rel : (base : List ℕ) (a : RefName) (b : RelName) → ref_iri base a ≡ rel_iri base b → ⊥
 ref_is_no_rel base a b same =
     let parts = same_local base a.table (codes "ref-" ++ column_list a.columns) b.table
-        (codes "rel-" ++ (pairing b.left b.left_target ++ semicolon ∷ pairing b.right b.right_target)) same in
+    (codes "rel-" ++ (pairing b.left b.left_target ++ semicolon ∷ pairing b.right b.right_target)) same in
     marks_differ (column_list a.columns) (pairing b.left b.left_target ++ semicolon ∷ pairing b.right b.right_target) parts.1
 
 pub names_apart : (base : List ℕ) → NamesApart base
@@ -122,5 +123,5 @@ names_apart base = record {
   table_rel = λ a b same. table_is_no_local base a b.table (codes "rel-" ++ (pairing b.left b.left_target ++ semicolon ∷ pairing b.right b.right_target)) same;
   column_ref = column_is_ref base;
   column_rel = column_is_no_rel base;
-  ref_rel = ref_is_no_rel base
+  ref_rel = ref_is_no_rel base;
 }

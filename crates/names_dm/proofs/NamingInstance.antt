@@ -34,9 +34,9 @@ outside [] space local one other = cc one
 outside (b ∷ base) [] local one other = cc other
 outside (b ∷ base) (n ∷ space) local one other = elim (cases_Bool (eqb b n)) [
   | inl same ↦
-    let eq : b ≡ n = eqb-true b n same in
-    let back : eqb n b ≡ true = ap (λ (m : ℕ). eqb m b) (sym eq) ∙ eqb-same b in
-    rw same (outside base space local (rw same at one) (rw back at other))
+      let eq : b ≡ n = eqb-true b n same in
+      let back : eqb n b ≡ true = ap (λ (m : ℕ). eqb m b) (sym eq) ∙ eqb-same b in
+      rw same (outside base space local (rw same at one) (rw back at other))
   | inr differs ↦ rw differs refl
 ]
 
@@ -170,3 +170,113 @@ kind_back kind.Binary = refl
 value_comes_back : (v : KindText) → value_told (record { text = v.text; kind = literal_type v.kind }) ≡ Some v
 unfolding value_told
 value_comes_back v = rw (kind_back v.kind) refl
+
+-- ---- a triple says one thing
+
+node_of : Term → Option Node
+node_of (term.Iri text) = Some (iri text)
+node_of (term.Blank label) = Some (blank label)
+node_of (term.Literal value) = None
+
+class_told : List ℕ → Meaning → Option Fact
+class_told i (of_table t) = Some (a_class t)
+class_told i (of_word w) = None
+class_told i of_property = None
+class_told i of_nothing = None
+
+-- by what the object of a type triple is
+by_type : List ℕ → Term → Meaning → Option Fact
+by_type base (term.Iri i) (of_word class_word) = class_told i (meaning base i)
+by_type base (term.Iri i) (of_word datatype_property_word) = option_and_then (λ c. Some (a_property c)) (told_column base i)
+by_type base (term.Iri i) (of_word object_property_word) = option_and_then (λ l. Some (an_object l)) (told_link base i)
+by_type base subject (of_table t) = option_and_then (λ n. Some (a_node n t)) (node_of subject)
+by_type base subject _ = None
+
+type_told : List ℕ → Term → Term → Option Fact
+type_told base subject (term.Iri o) = by_type base subject (meaning base o)
+type_told base subject _ = None
+
+by_domain : List ℕ → Meaning → Option Fact
+by_domain i (of_table t) = Some (a_domain i t)
+by_domain i _ = None
+
+domain_told : List ℕ → Term → Term → Option Fact
+domain_told base (term.Iri i) (term.Iri o) = by_domain i (meaning base o)
+domain_told base subject object = None
+
+by_range : List ℕ → List ℕ → Meaning → Option Fact
+by_range base i (of_table t) = option_and_then (λ l. Some (a_link_range l t)) (told_link base i)
+by_range base i (of_word (datatype_word k)) = option_and_then (λ c. Some (a_range c k)) (told_column base i)
+by_range base i _ = None
+
+range_told : List ℕ → Term → Term → Option Fact
+range_told base (term.Iri i) (term.Iri o) = by_range base i (meaning base o)
+range_told base subject object = None
+
+cell_told : Node → Option ColumnName → Option KindText → Option Fact
+cell_told n (Some c) (Some v) = Some (a_cell n c v)
+cell_told n c v = None
+
+linked : Node → Node → Option Link → Option Fact
+linked n m (Some l) = Some (a_link n l m)
+linked n m None = None
+
+by_object : List ℕ → List ℕ → Node → Term → Option Fact
+by_object base predicate n (term.Literal value) = cell_told n (told_column base predicate) (value_told value)
+by_object base predicate n (term.Iri text) = linked n (iri text) (told_link base predicate)
+by_object base predicate n (term.Blank label) = linked n (blank label) (told_link base predicate)
+
+by_predicate : List ℕ → Statement → Meaning → Option Fact
+by_predicate base s (of_word type_word) = type_told base s.subject s.object
+by_predicate base s (of_word domain_word) = domain_told base s.subject s.object
+by_predicate base s (of_word range_word) = range_told base s.subject s.object
+by_predicate base s (of_word different_word) = option_and_then (λ n. Some (a_mark n)) (node_of s.subject)
+by_predicate base s of_property = option_and_then (λ n. by_object base s.predicate n s.object) (node_of s.subject)
+by_predicate base s _ = None
+
+fact_told : List ℕ → Statement → Option Fact
+fact_told base s = by_predicate base s (meaning base s.predicate)
+
+node_back : (n : Node) → node_of (node_term n) ≡ Some n
+unfolding node_of
+node_back (iri text) = refl
+node_back (blank label) = refl
+
+by_object-node : (base predicate : List ℕ) (n m : Node) → by_object base predicate n (node_term m) ≡ linked n m (told_link base predicate)
+unfolding by_object
+by_object-node base predicate n (iri text) = refl
+by_object-node base predicate n (blank label) = refl
+
+by_type-table : (base t : List ℕ) (n : Node) → by_type base (node_term n) (of_table t) ≡ Some (a_node n t)
+unfolding by_type node_of
+by_type-table base t (iri text) = refl
+by_type-table base t (blank label) = refl
+
+fact_back : (base : List ℕ) (f : Fact) → is_base base ≡ true → fact_told base (triple_of base f) ≡ Some f
+unfolding fact_told by_predicate type_told by_type class_told domain_told by_domain range_told by_range by_object cell_told linked
+fact_back base (a_class t) ok = rw (word_means base type_word ok, word_means base class_word ok, table_means base t) refl
+fact_back base (a_property c) ok = rw (word_means base type_word ok, word_means base datatype_property_word ok, told_column-column base c) refl
+fact_back base (an_object l) ok = rw (word_means base type_word ok, word_means base object_property_word ok, link_back base l) refl
+fact_back base (a_domain i t) ok = rw (word_means base domain_word ok, table_means base t) refl
+fact_back base (a_range c k) ok = rw (word_means base range_word ok, word_means base (datatype_word k) ok, told_column-column base c) refl
+fact_back base (a_link_range l t) ok = rw (word_means base range_word ok, table_means base t, link_back base l) refl
+fact_back base (a_node n t) ok = rw (word_means base type_word ok, table_means base t) (by_type-table base t n)
+fact_back base (a_cell n c v) ok =
+    rw (local_means base c.table (safe_form c.column), node_back n, told_column-column base c, value_comes_back v) refl
+fact_back base (a_link n l m) ok = rw (link_means base l, node_back n, by_object-node base (link_iri base l) n m, link_back base l) refl
+fact_back base (a_mark n) ok = rw (word_means base different_word ok, node_back n) refl
+
+some_fact : (f g : Fact) → Some f ≡ Some g → f ≡ g
+some_fact f g e = cc
+
+pub naming_laws : (base : List ℕ) → is_base base ≡ true → NamingLaws base
+naming_laws base ok = record {
+  word_meaning = λ w. word_means base w ok;
+  table_meaning = table_means base;
+  column_meaning = λ c. local_means base c.table (safe_form c.column);
+  link_meaning = link_means base;
+  column_told = told_column-column base;
+  link_told = link_back base;
+  value_back = value_comes_back;
+  one_fact = λ f g same. some_fact f g (sym (fact_back base f ok) ∙ ap (fact_told base) same ∙ fact_back base g ok);
+}

@@ -51,11 +51,11 @@ pub append-cut_at : (c : ℕ) (whole front text : List ℕ) → ◌≡◌ {A = O
 append-cut_at c [] front text told = cc told
 append-cut_at c (d ∷ whole) front text told = elim (cases_Bool (eqb d c)) [
   | inl same ↦
-    let h = pair_of [] whole front text (rw same at told) in
-    rw (sym h.0, sym h.1, eqb-true d c same) refl
+      let h = pair_of [] whole front text (rw same at told) in
+      rw (sym h.0, sym h.1, eqb-true d c same) refl
   | inr other ↦
-    let m = more_told d (cut_at c whole) front text (rw other at told) in
-    rw m.2 (ap (λ (t : List ℕ). d ∷ t) (append-cut_at c whole m.0 text m.1))
+      let m = more_told d (cut_at c whole) front text (rw other at told) in
+      rw m.2 (ap (λ (t : List ℕ). d ∷ t) (append-cut_at c whole m.0 text m.1))
 ]
 
 -- what stands in no safe form

@@ -20,8 +20,8 @@ tells test made text None sound complete = λ x good same. let h = complete x go
 tells test made text (Some x) sound complete = elim (cases_Bool (test x)) [
   | inl good ↦ rw good (good, sound x refl)
   | inr bad ↦ rw bad (
-    λ y good same. let told : x ≡ y = some_same x y (complete y good same) in cc (sym bad ∙ ap test told ∙ good)
-  )
+      λ y good same. let told : x ≡ y = some_same x y (complete y good same) in cc (sym bad ∙ ap test told ∙ good)
+      )
 ]
 
 pub tells_table : (base iri : List ℕ) → Tells is_name (table_iri base) iri (read_table base iri)

@@ -134,10 +134,10 @@ scalar-no_character : (c : ℕ) → is_no_character c ≡ false → scalar c ≡
 scalar-no_character c none = elim (cases_lt c 55296) [
   | inl low ↦ rw (lt-ltb c 55296 low) refl
   | inr high ↦
-    let parts = or_false_parts (leb 55296 c && leb c 57343) (ltb 1114111 c) none in
-    let past = leb-false c 57343 (not_and (leb 55296 c) (leb c 57343) parts.0 (le-leb 55296 c high)) in
-    let below = ltb-false 1114111 c parts.1 in
-    rw (le-ltb c 55296 high, le-leb 57344 c (omega arith), lt-ltb c 1114112 (omega arith)) refl
+      let parts = or_false_parts (leb 55296 c && leb c 57343) (ltb 1114111 c) none in
+      let past = leb-false c 57343 (not_and (leb 55296 c) (leb c 57343) parts.0 (le-leb 55296 c high)) in
+      let below = ltb-false 1114111 c parts.1 in
+      rw (le-ltb c 55296 high, le-leb 57344 c (omega arith), lt-ltb c 1114112 (omega arith)) refl
 ]
 
 both : (a b : Bool) → (a && b) ≡ true → (a ≡ true) × (b ≡ true)

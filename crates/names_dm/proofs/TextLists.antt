@@ -35,9 +35,9 @@ pub list_of-cut : (text front back one : List ℕ) → ◌≡◌ {A = Option (Li
 unfolding list_of parts_by_cut
 list_of-cut text front back one cut told =
     ap texts_of (split-cut_at semicolon text ∙ ap (parts_by_cut text semicolon) cut) ∙ rw told (add (texts_of (slice_split (λ d. eqb d semicolon) back))) where
-  add : (r : Option (List (List ℕ))) → option_and_then (λ more. Some (one ∷ more)) r ≡ with_more (one ∷ []) r
-  add None = refl
-  add (Some more) = refl
+      add : (r : Option (List (List ℕ))) → option_and_then (λ more. Some (one ∷ more)) r ≡ with_more (one ∷ []) r
+      add None = refl
+      add (Some more) = refl
 
 pub list_of-bad : (text front back : List ℕ) → ◌≡◌ {A = Option (List ℕ × List ℕ)} (cut_at semicolon text) (Some (front, back)) → unsafe_form front ≡ None → list_of text ≡ None
 unfolding list_of parts_by_cut

@@ -83,7 +83,7 @@ unfolding pairings_of
 pairings_of-pairings left left_target right right_target =
     rw (
       cut_at-append semicolon (pairing left left_target) (pairing right right_target)
-        (lacks-append semicolon equals_sign (safe_form left) (safe_form left_target) (form_lacks semicolon left semicolon_out) refl (form_lacks semicolon left_target semicolon_out)),
+          (lacks-append semicolon equals_sign (safe_form left) (safe_form left_target) (form_lacks semicolon left semicolon_out) refl (form_lacks semicolon left_target semicolon_out)),
       pairing_of-pairing left left_target,
       pairing_of-pairing right right_target,
     )
@@ -131,8 +131,7 @@ both_forms parts pair told =
     let one = told_by (λ one. option_and_then (λ other. Some (one, other)) (unsafe_form parts.1)) (unsafe_form parts.0) pair told in
     let other = told_by (λ other. Some (one.0, other)) (unsafe_form parts.1) pair one.2 in
     let made : List ℕ × List ℕ = (one.0, other.0) in
-    let same : made ≡ pair = some_same made pair other.2 in
-    (
+    let same : made ≡ pair = some_same made pair other.2 in (
       ap (λ (p : List ℕ × List ℕ). safe_form p.0) (sym same) ∙ safe_form-unsafe_form parts.0 one.0 one.1,
       ap (λ (p : List ℕ × List ℕ). safe_form p.1) (sym same) ∙ safe_form-unsafe_form parts.1 other.0 other.1,
     )
@@ -173,10 +172,10 @@ ref_iri-told base iri name told =
     let made : RefName = record { table = table.0; columns = columns.0 } in
     let same : made ≡ name = some_same made name columns.2 in
     let local : codes "ref-" ++ column_list columns.0 ≡ parts.0.1 =
-        ap (λ (t : List ℕ). codes "ref-" ++ t) (column_list-list_of rest.0 columns.0 rest.2) ∙ append-after (codes "ref-") parts.0.1 rest.0 rest.1 in
+    ap (λ (t : List ℕ). codes "ref-" ++ t) (column_list-list_of rest.0 columns.0 rest.2) ∙ append-after (codes "ref-") parts.0.1 rest.0 rest.1 in
     ap (ref_iri base) (sym same)
     ∙ joined_parts base iri (safe_form table.0) (codes "ref-" ++ column_list columns.0) parts.0.0 parts.0.1 (safe_form-unsafe_form parts.0.0 table.0 table.1) local
-      (whole_of-local_parts base iri parts.0 parts.1)
+    (whole_of-local_parts base iri parts.0 parts.1)
 
 pairing-pairing_of : (text : List ℕ) (pair : List ℕ × List ℕ) → pairing_of text ≡ Some pair → pairing pair.0 pair.1 ≡ text
 unfolding pairing_of
@@ -211,7 +210,7 @@ rel_iri-told base iri name told =
     let made : RelName = rel_name table.0 sides.0 in
     let same : made ≡ name = some_same made name sides.2 in
     let local : codes "rel-" ++ two_pairings sides.0 ≡ parts.0.1 =
-        ap (λ (t : List ℕ). codes "rel-" ++ t) (pairings-pairings_of rest.0 sides.0 rest.2) ∙ append-after (codes "rel-") parts.0.1 rest.0 rest.1 in
+    ap (λ (t : List ℕ). codes "rel-" ++ t) (pairings-pairings_of rest.0 sides.0 rest.2) ∙ append-after (codes "rel-") parts.0.1 rest.0 rest.1 in
     ap (rel_iri base) (sym same)
     ∙ joined_parts base iri (safe_form table.0) (codes "rel-" ++ two_pairings sides.0) parts.0.0 parts.0.1 (safe_form-unsafe_form parts.0.0 table.0 table.1) local
-      (whole_of-local_parts base iri parts.0 parts.1)
+    (whole_of-local_parts base iri parts.0 parts.1)

@@ -142,14 +142,14 @@ byte_told b d r t same = elim (cases_Bool (stays_in_variable b)) [
   | inr gone ↦ elim (cases_Bool (stays_in_variable d)) [
     | inl keeps ↦ let s = rw (gone, keeps) at same in let head : 95 ≡ d = cc in absurd (no_underscore d keeps (sym head))
     | inr also ↦
-      let s = rw (gone, also) at same in
-      let high : digit_glyph true (b / 16) ≡ digit_glyph true (d / 16) = cc in
-      let low : digit_glyph true (b % 16) ≡ digit_glyph true (d % 16) = cc in
-      let small_b = gone_small b gone in
-      let small_d = gone_small d also in
-      let high_same : b / 16 ≡ d / 16 = sym (digit_back (b / 16) (omega arith)) ∙ ap digit_value high ∙ digit_back (d / 16) (omega arith) in
-      let low_same : b % 16 ≡ d % 16 = sym (digit_back (b % 16) (omega arith)) ∙ ap digit_value low ∙ digit_back (d % 16) (omega arith) in
-      (omega arith, cc)
+        let s = rw (gone, also) at same in
+        let high : digit_glyph true (b / 16) ≡ digit_glyph true (d / 16) = cc in
+        let low : digit_glyph true (b % 16) ≡ digit_glyph true (d % 16) = cc in
+        let small_b = gone_small b gone in
+        let small_d = gone_small d also in
+        let high_same : b / 16 ≡ d / 16 = sym (digit_back (b / 16) (omega arith)) ∙ ap digit_value high ∙ digit_back (d / 16) (omega arith) in
+        let low_same : b % 16 ≡ d % 16 = sym (digit_back (b % 16) (omega arith)) ∙ ap digit_value low ∙ digit_back (d % 16) (omega arith) in
+        (omega arith, cc)
   ]
 ]
 

@@ -21,10 +21,10 @@ mod variables;
 pub use base::{BadBase, Base};
 pub use iri::Iri;
 pub use iri_safe::{SafeError, safe, unsafe_of};
-pub use makers::{column_iri, ref_iri, rel_iri, table_iri};
-pub use names::{ColumnName, RefName, RelName};
 pub use label::{Label, row_label};
 pub use literal::{Literal, LiteralType};
+pub use makers::{column_iri, ref_iri, rel_iri, table_iri};
+pub use names::{ColumnName, RefName, RelName};
 pub use readers::{read_column_iri, read_ref_iri, read_rel_iri, read_table_iri};
 pub use tag::Tag;
 pub use term::Term;
@@ -37,3 +37,6 @@ pub type Triples = value_dm::Sequence<Triple>;
 
 /// Names of variables in order.
 pub type Vars = value_dm::Sequence<Var>;
+
+#[cfg(test)]
+mod tests;

@@ -22,12 +22,7 @@ pub fn table_iri(alloc: Global, base: &Base, table: &str) -> Result<Iri, AllocEr
 
 /// The IRI of a column: its table's, `#` and the safe form of its name. Refused for want of memory alone.
 #[tactic(auto, using(crate::proofs::NamesApart::names_apart))]
-pub fn column_iri(
-    alloc: Global,
-    base: &Base,
-    table: &str,
-    column: &str,
-) -> Result<Iri, AllocError>
+pub fn column_iri(alloc: Global, base: &Base, table: &str, column: &str) -> Result<Iri, AllocError>
     ensures text { IfOk result (λ iri. iri ≡ column_iri base.now record { table = chars table.now; column = chars column.now }) }
     ensures apart { OnOk result (NamesApart base.now) }
 {
@@ -63,18 +58,11 @@ fn with_columns(spelling: Spelling, columns: &Names) -> Result<Spelling, AllocEr
 /// The IRI of a reference: its table's, `#ref-` and the safe names of the key's columns in its order, semicolons between
 /// them. Refused for want of memory alone.
 #[tactic(auto, using(crate::proofs::NamesApart::names_apart))]
-pub fn ref_iri(
-    alloc: Global,
-    base: &Base,
-    table: &str,
-    columns: &Names,
-) -> Result<Iri, AllocError>
+pub fn ref_iri(alloc: Global, base: &Base, table: &str, columns: &Names) -> Result<Iri, AllocError>
     ensures text { IfOk result (λ iri. iri ≡ ref_iri base.now record { table = chars table.now; columns = columns.now }) }
     ensures apart { OnOk result (NamesApart base.now) }
 {
-    let start = Spelling::new(alloc, base)?
-        .with_safe(table)?
-        .with("#ref-")?;
+    let start = Spelling::new(alloc, base)?.with_safe(table)?.with("#ref-")?;
     with_columns(start, columns)?.into_iri(alloc)
 }
 

@@ -57,11 +57,7 @@ fn is_name(text: &Text) -> bool
 }
 
 // The texts on both sides.
-fn both_texts(
-    alloc: Global,
-    front: &str,
-    back: &str,
-) -> Result<Option<(Text, Text)>, AllocError>
+fn both_texts(alloc: Global, front: &str, back: &str) -> Result<Option<(Text, Text)>, AllocError>
     ensures { IfOk result (λ told. told ≡ both_texts (chars front.now, chars back.now)) }
 {
     let Some(one) = told_text(alloc, front)? else {

@@ -14,7 +14,7 @@ pub returns-in_default-from_utf8-clause-refused : goal.returns-in_default-from_u
 returns-in_default-from_utf8-clause-refused c e found same =
     let text = c.args.text.now in
     let items : c.append_to.new.out.items ≡ encode_utf8_all found =
-        c.in-Ok.ensures.ok ∙ rw c.new-bytes.ensures.items (c.percent_decode_str.ensures.bytes ∙ its_bytes text found c.utf8.text same) in
+    c.in-Ok.ensures.ok ∙ rw c.new-bytes.ensures.items (c.percent_decode_str.ensures.bytes ∙ its_bytes text found c.utf8.text same) in
     let ok = c.from_utf8.ensures.succeeds (subst IsUtf8 (sym items) (its_text text found c.utf8.text same)) in
     cc (rw c.in_default-from_utf8.is at ok)
 
@@ -22,9 +22,9 @@ pub returns-else-eq-clause-refused : goal.returns-else-eq-clause-refused
 returns-else-eq-clause-refused c e found same =
     let text = c.args.text.now in
     let items : c.append_to.new.out.items ≡ encode_utf8_all found =
-        c.in-Ok.ensures.ok ∙ rw c.new-bytes.ensures.items (c.percent_decode_str.ensures.bytes ∙ its_bytes text found c.utf8.text same) in
+    c.in-Ok.ensures.ok ∙ rw c.new-bytes.ensures.items (c.percent_decode_str.ensures.bytes ∙ its_bytes text found c.utf8.text same) in
     let bytes : string_bytes c.in-Ok-from_utf8.found ≡ encode_utf8_all found = ap (λ v. v.items) c.in-Ok-from_utf8.ensures.ok ∙ items in
     let characters : chars c.as_str.result.now ≡ found = ap chars (c.as_str.ensures.value ∙ bytes) ∙ chars-encodes_any found in
     let form : string_bytes c.in-Ok-safe.form ≡ text =
-        c.in-Ok-safe.ensures.bytes ∙ ap (λ t. encode_utf8_all (safe_form t)) characters ∙ ap encode_utf8_all same ∙ encodes-chars text c.utf8.text in
+    c.in-Ok-safe.ensures.bytes ∙ ap (λ t. encode_utf8_all (safe_form t)) characters ∙ ap encode_utf8_all same ∙ encodes-chars text c.utf8.text in
     same_bytes _ _ (sym c.eq.ensures ∙ c.if-eq.false) (c.as_str-2.ensures.value ∙ form)

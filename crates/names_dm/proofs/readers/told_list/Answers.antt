@@ -13,11 +13,10 @@ parts-preserved c =
     let is_text : IsUtf8 c.in-Some.more.now = search rules in
     let rest = chars c.parts.rest.now in
     let more = chars c.in-Some.more.now in
-    let one = c.in-Some-2.one in
-    (
+    let one = c.in-Some-2.one in (
       c.parts.invariant.0
-      ∙ ap (with_more c.parts.texts) (list_of-cut rest (chars c.in-Some.form.now) more one c.in-Some.ensures.parts (sym c.in_ok-one.ensures ∙ c.in-Some-2.is))
-      ∙ with_more-step c.parts.texts one (list_of more) ∙ ap (λ (texts : List (List ℕ)). with_more texts (list_of more)) (sym c.in_ok-push.ensures.ok),
+          ∙ ap (with_more c.parts.texts) (list_of-cut rest (chars c.in-Some.form.now) more one c.in-Some.ensures.parts (sym c.in_ok-one.ensures ∙ c.in-Some-2.is))
+          ∙ with_more-step c.parts.texts one (list_of more) ∙ ap (λ (texts : List (List ℕ)). with_more texts (list_of more)) (sym c.in_ok-push.ensures.ok),
       is_text,
     )
 
@@ -28,7 +27,7 @@ pub returns-in_default-2 : goal.returns-in_default-2
 returns-in_default-2 c =
     sym (c.parts.invariant.0
     ∙ ap (with_more c.parts.texts)
-      (list_of-bad (chars c.parts.rest.now) (chars c.in-Some.form.now) (chars c.in-Some.more.now) c.in-Some.ensures.parts (sym c.in_ok-one.ensures ∙ c.in_default-2.is)))
+    (list_of-bad (chars c.parts.rest.now) (chars c.in-Some.form.now) (chars c.in-Some.more.now) c.in-Some.ensures.parts (sym c.in_ok-one.ensures ∙ c.in_default-2.is)))
 
 one_more : Option (List ℕ) → Option (List (List ℕ))
 one_more = option_and_then (λ one. Some (one ∷ []))

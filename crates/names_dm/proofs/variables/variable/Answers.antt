@@ -13,7 +13,7 @@ of_grammar-requires c =
     let all : take c.loop-byte.byte-index name ≡ name = take_all c.loop-byte.byte-index name past in
     let written : string_bytes c.loop-byte.out ≡ flat_map variable_byte name = c.loop-byte.invariant ∙ ap (flat_map variable_byte) all in
     let made : c.in_ok-from_str.field-0 ≡ flat_map variable_byte name =
-        c.in_ok-from_str.ensures.chars ∙ ap chars (c.as_str.ensures.value ∙ written) ∙ chars-IsAscii (flat_map variable_byte name) (fits_ascii (flat_map variable_byte name) (bytes_fit name small)) in
+    c.in_ok-from_str.ensures.chars ∙ ap chars (c.as_str.ensures.value ∙ written) ∙ chars-IsAscii (flat_map variable_byte name) (fits_ascii (flat_map variable_byte name) (bytes_fit name small)) in
     rw made (is_variable-bytes name c.requires small)
 
 pub returns-clause-text : goal.returns-clause-text
@@ -24,7 +24,7 @@ returns-clause-text c =
     let all : take c.loop-byte.byte-index name ≡ name = take_all c.loop-byte.byte-index name past in
     let written : string_bytes c.loop-byte.out ≡ flat_map variable_byte name = c.loop-byte.invariant ∙ ap (flat_map variable_byte) all in
     let made : c.in_ok-from_str.field-0 ≡ flat_map variable_byte name =
-        c.in_ok-from_str.ensures.chars ∙ ap chars (c.as_str.ensures.value ∙ written) ∙ chars-IsAscii (flat_map variable_byte name) (fits_ascii (flat_map variable_byte name) (bytes_fit name small)) in
+    c.in_ok-from_str.ensures.chars ∙ ap chars (c.as_str.ensures.value ∙ written) ∙ chars-IsAscii (flat_map variable_byte name) (fits_ascii (flat_map variable_byte name) (bytes_fit name small)) in
     c.of_grammar.ensures ∙ made ∙ ap (flat_map variable_byte) (sym (encodes-chars name c.utf8.name))
 
 pub returns-clause-apart : goal.returns-clause-apart
@@ -35,5 +35,5 @@ returns-clause-apart c = λ other same.
     let all : take c.loop-byte.byte-index name ≡ name = take_all c.loop-byte.byte-index name past in
     let written : string_bytes c.loop-byte.out ≡ flat_map variable_byte name = c.loop-byte.invariant ∙ ap (flat_map variable_byte) all in
     let made : c.in_ok-from_str.field-0 ≡ flat_map variable_byte name =
-        c.in_ok-from_str.ensures.chars ∙ ap chars (c.as_str.ensures.value ∙ written) ∙ chars-IsAscii (flat_map variable_byte name) (fits_ascii (flat_map variable_byte name) (bytes_fit name small)) in
+    c.in_ok-from_str.ensures.chars ∙ ap chars (c.as_str.ensures.value ∙ written) ∙ chars-IsAscii (flat_map variable_byte name) (fits_ascii (flat_map variable_byte name) (bytes_fit name small)) in
     variable_of-injective other (chars name) (same ∙ c.of_grammar.ensures ∙ made ∙ ap (flat_map variable_byte) (sym (encodes-chars name c.utf8.name)))
