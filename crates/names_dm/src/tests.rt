@@ -1,5 +1,5 @@
 use crate::{
-    Base, ColumnName, Iri, Label, Literal, LiteralType, RefName, RelName, SafeError, Tag, Term,
+    Base, Iri, Label, Literal, LiteralType, RelName, SafeError, Tag, Term,
     Triple, Var, column_iri, read_column_iri, read_ref_iri, read_rel_iri, read_table_iri, ref_iri,
     rel_iri, row_label, safe, table_iri, unsafe_of, variable,
 };
@@ -173,5 +173,103 @@ fn bases(rt: HostRuntime) -> Result<(), Fail> {
     for (letters, good) in bases {
         assert_eq!(rt; Base::new(text(alloc, letters)?).is_ok(), good, "{letters}");
     }
+    Ok(())
+}
+
+fn base(alloc: Global) -> Result<Option<Base>, AllocError> {
+    Ok(Base::new(text(alloc, BASE)?).ok())
+}
+
+#[test]
+fn makers_and_readers(rt: HostRuntime) -> Result<(), Fail> {
+    let alloc = rt.alloc();
+    let base = base(alloc)?.ok_or("no base")?;
+
+    let table = table_iri(alloc, &base, "Addresses")?;
+    assert_eq!(rt; table.as_str(), "http://foo.example/DB/Addresses");
+    let told = read_table_iri(alloc, &base, &table)?.ok_or("no table")?;
+    assert_eq!(rt; told.as_str(), "Addresses");
+    assert!(rt; read_column_iri(alloc, &base, &table)?.is_none());
+
+    let column = column_iri(alloc, &base, "a b/c", "x;y=z")?;
+    assert_eq!(rt; column.as_str(), "http://foo.example/DB/a%20b%2Fc#x%3By%3Dz");
+    let told = read_column_iri(alloc, &base, &column)?.ok_or("no column")?;
+    assert_eq!(rt; told.table.as_str(), "a b/c");
+    assert_eq!(rt; told.column.as_str(), "x;y=z");
+    assert!(rt; read_ref_iri(alloc, &base, &column)?.is_none());
+
+    let reference = ref_iri(alloc, &base, "People", &names(alloc, "addr", "")?)?;
+    assert_eq!(rt; reference.as_str(), "http://foo.example/DB/People#ref-addr");
+    let told = read_column_iri(alloc, &base, &reference)?.ok_or("no column")?;
+    assert_eq!(rt; told.column.as_str(), "ref-addr");
+
+    let reference = ref_iri(alloc, &base, "Q", &names(alloc, "x", "y")?)?;
+    assert_eq!(rt; reference.as_str(), "http://foo.example/DB/Q#ref-x;y");
+    assert!(rt; read_column_iri(alloc, &base, &reference)?.is_none());
+    assert!(rt; read_rel_iri(alloc, &base, &reference)?.is_none());
+    let told = read_ref_iri(alloc, &base, &reference)?.ok_or("no reference")?;
+    assert_eq!(rt; told.table.as_str(), "Q");
+    assert!(rt; told.columns == names(alloc, "x", "y")?);
+
+    let name = RelName {
+        table: text(alloc, "Enrolled")?,
+        left: text(alloc, "student")?,
+        left_target: text(alloc, "id")?,
+        right: text(alloc, "course")?,
+        right_target: text(alloc, "code")?,
+    };
+    let relation = rel_iri(alloc, &base, &name)?;
+    assert_eq!(rt; relation.as_str(), "http://foo.example/DB/Enrolled#rel-student=id;course=code");
+    let told = read_rel_iri(alloc, &base, &relation)?.ok_or("no relation")?;
+    assert!(rt; told == name);
+    assert!(rt; told.copy(alloc)? == name);
+    Ok(())
+}
+
+fn iri(alloc: Global, letters: &str) -> Result<Iri, Fail> {
+    Ok(Iri::new(text(alloc, letters)?).ok_or("no IRI")?)
+}
+
+#[test]
+fn other_iris(rt: HostRuntime) -> Result<(), Fail> {
+    let alloc = rt.alloc();
+    let base = base(alloc)?.ok_or("no base")?;
+    for letters in ["http://foo.example/DB/", "http://foo.example/DB/\u{FEFF}T", "http://foo.example/DB/%41", "http://foo.example/DB/T/id=1", "http://foo.example/T"] {
+        assert!(rt; read_table_iri(alloc, &base, &iri(alloc, letters)?)?.is_none(), "{letters}");
+    }
+    for letters in ["http://foo.example/DB/T#", "http://foo.example/DB/#a", "http://foo.example/DB/T#a#b", "http://foo.example/DB/T#%2f", "http://foo.example/DB/T#\u{FEFF}"] {
+        assert!(rt; read_column_iri(alloc, &base, &iri(alloc, letters)?)?.is_none(), "{letters}");
+    }
+    for letters in ["http://foo.example/DB/T#ref-", "http://foo.example/DB/T#ref-a;", "http://foo.example/DB/T#a", "http://foo.example/DB/T#ref-a=b"] {
+        assert!(rt; read_ref_iri(alloc, &base, &iri(alloc, letters)?)?.is_none(), "{letters}");
+    }
+    for letters in ["http://foo.example/DB/T#rel-a=b", "http://foo.example/DB/T#rel-a=b;c=", "http://foo.example/DB/T#rel-a=b;c=d;e=f", "http://foo.example/DB/T#ref-a"] {
+        assert!(rt; read_rel_iri(alloc, &base, &iri(alloc, letters)?)?.is_none(), "{letters}");
+    }
+    Ok(())
+}
+
+#[test]
+fn terms(rt: HostRuntime) -> Result<(), Fail> {
+    let alloc = rt.alloc();
+    assert_eq!(rt; row_label(alloc, 1, 20)?.as_str(), "t1r20");
+    for (name, form) in [("ID", "ID"), ("a_b", "a_5Fb"), ("é ", "_C3_A9_20")] {
+        assert_eq!(rt; variable(alloc, name)?.as_str(), form);
+    }
+    let string = iri(alloc, "http://www.w3.org/2001/XMLSchema#string")?;
+    let plain = Literal::new(text(alloc, "x")?, LiteralType::Typed(string));
+    assert!(rt; matches!(plain.kind(), LiteralType::Plain));
+    assert_eq!(rt; plain.text().as_str(), "x");
+    let number = iri(alloc, "http://www.w3.org/2001/XMLSchema#integer")?;
+    let typed = Literal::new(text(alloc, "x")?, LiteralType::Typed(number));
+    assert!(rt; plain != typed);
+    assert!(rt; typed.copy(alloc)? == typed);
+    let property = iri(alloc, "http://a/p")?;
+    assert!(rt; Triple::new(Term::Literal(typed), property.copy(alloc)?, Term::Literal(plain)).is_none());
+    let subject = Term::Blank(row_label(alloc, 1, 1)?);
+    let triple = Triple::new(subject, property, Term::Iri(iri(alloc, "http://a/o")?)).ok_or("no triple")?;
+    assert!(rt; triple.copy(alloc)? == triple);
+    assert_eq!(rt; triple.predicate().as_str(), "http://a/p");
+    assert!(rt; triple.subject() != triple.object());
     Ok(())
 }
