@@ -13,8 +13,8 @@ use Rattle.value_dm.specs.declared.calendar.DateTime.{DateTime}
 use Rattle.value_dm.specs.declared.decimal.Decimal.{Decimal}
 use Rattle.value_dm.specs.declared.kind.Kind.{Kind}
 use Rattle.value_dm.specs.declared.kind.Kind.TheVariants as kind
-use Rattle.value_dm.specs.declared.field.NullMode.{NullMode}
-use Rattle.value_dm.specs.declared.field.NullMode.TheVariants as mode
+use Rattle.value_dm.specs.declared.mode.NullMode.{NullMode}
+use Rattle.value_dm.specs.declared.mode.NullMode.TheVariants as mode
 use Rattle.value_dm.specs.declared.value.Value.{Value}
 use Rattle.value_dm.specs.declared.value.Value.TheVariants as value
 
