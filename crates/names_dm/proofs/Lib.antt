@@ -1,7 +1,18 @@
 mod Ascii
+mod Cuts
 mod Escapes
+mod Lists
+mod Marks
+mod NamesApart
+mod NamingInstance
+mod Parts
+mod Read
+mod ReadBack
 mod RowLabels
 mod SafeForms
+mod TextLists
+mod Told
 mod Utf8
+mod VariableLaws
 mod Words
 pub mod Yielded

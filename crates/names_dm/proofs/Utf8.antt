@@ -31,7 +31,7 @@ first_of : (b : ℕ) (bs : List ℕ) → chars (b ∷ bs) ≡ chars_after (conti
 unfolding chars
 first_of b bs = refl
 
-chars-encode : (c : ℕ) (rest : List ℕ) → chars (encode_utf8 c ++ rest) ≡ c ∷ chars rest
+pub chars-encode : (c : ℕ) (rest : List ℕ) → chars (encode_utf8 c ++ rest) ≡ c ∷ chars rest
 unfolding encode_utf8
 chars-encode c rest = elim (cases_lt c 128) [
   | inl one ↦

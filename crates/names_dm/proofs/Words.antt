@@ -141,3 +141,7 @@ bad-push test xs c = not_and (list_all test xs) (test c) ∙ ap not (sym (list_a
 pub is_word_of-from_loop : (test : ℕ → Bool) (xs : List ℕ) → (is_nonempty xs && not (not (list_all test xs))) ≡ is_word_of test xs
 is_word_of-from_loop test [] = refl
 is_word_of-from_loop test (c ∷ cs) = double_not (test c && list_all test cs)
+
+abbrev pub is_empty_list : {A : Type 0} → List A → Bool
+is_empty_list [] = true
+is_empty_list (x ∷ xs) = false

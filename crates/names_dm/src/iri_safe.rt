@@ -1,9 +1,10 @@
-ghost use Rattle.std.specs.Prelude.{◌≡◌, ◌++◌, IfOk, OnOk, chars, encode_utf8_all, string_bytes};
+ghost use Rattle.std.specs.Prelude.{◌≡◌, ◌≢◌, ◌++◌, List, ℕ, IfOk, IsErrOf, OnOk, chars, encode_utf8_all, string_bytes};
 ghost use Rattle.names_dm.specs.IriSafe.{is_iri_character, is_unreserved, safe_character, safe_form, stays};
 
 use crate::characters::{between, is_letter_or_digit};
-use percent_encoding::{NON_ALPHANUMERIC, utf8_percent_encode};
+use percent_encoding::{NON_ALPHANUMERIC, percent_decode_str, utf8_percent_encode};
 use std::alloc::{AllocError, Global};
+use thiserror::Error;
 
 fn is_unreserved(c: u32) -> bool
     ensures { result ≡ is_unreserved c }
@@ -63,4 +64,37 @@ pub fn safe(alloc: Global, text: &str) -> Result<String, AllocError>
     let mut out = String::new(alloc);
     push_safe(&mut out, text)?;
     Ok(out)
+}
+
+/// Why a text has no text of which it is the safe form.
+#[derive(Debug, Drop, Error, Clone, Copy, PartialEq, Eq)]
+pub enum SafeError {
+    #[error("not the safe form of a text")]
+    NotSafe,
+    #[error("out of memory")]
+    Memory,
+}
+
+/// The text whose IRI-safe form this is. `NotSafe` exactly where it is the safe form of no text: where an escape is not
+/// upper-case, stands for a character that stays, or gives no UTF-8, and where a character stands unescaped that needs
+/// an escape.
+pub fn unsafe_of(alloc: Global, text: &str) -> Result<String, SafeError>
+    ensures ok { IfOk result (λ found. safe_form (chars (string_bytes found)) ≡ chars text.now) }
+    ensures refused { IsErrOf result SafeError.NotSafe → (found : List ℕ) → safe_form found ≢ chars text.now }
+{
+    let mut bytes = Vec::new(alloc);
+    let Ok(()) = percent_decode_str(text).append_to(&mut bytes) else {
+        return Err(SafeError::Memory);
+    };
+    let Ok(found) = String::from_utf8(bytes) else {
+        return Err(SafeError::NotSafe);
+    };
+    let Ok(form) = safe(alloc, found.as_str()) else {
+        return Err(SafeError::Memory);
+    };
+    if form.as_str() == text {
+        Ok(found)
+    } else {
+        Err(SafeError::NotSafe)
+    }
 }

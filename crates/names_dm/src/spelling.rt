@@ -60,9 +60,6 @@ impl Spelling {
     pub fn into_iri(self, alloc: Global) -> Result<Iri, AllocError>
         ensures { IfOk result (λ iri. iri ≡ self) }
     {
-        Ok(Iri::of_grammar(Text::from_str(
-            alloc,
-            self.string.as_str(),
-        )?))
+        Ok(Iri::of_grammar(Text::from_str(alloc, self.string.as_str())?))
     }
 }

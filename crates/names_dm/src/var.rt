@@ -58,6 +58,14 @@ impl Var {
         }
     }
 
+    // The name of a text that is one's.
+    pub(crate) fn of_grammar(text: Text) -> Var
+        requires { IsTrue (is_variable text) }
+        ensures { result ≡ text }
+    {
+        Var { text }
+    }
+
     /// The characters.
     pub fn as_str(&self) -> &str
         ensures bytes { result.now ≡ encode_utf8_all self.now }
