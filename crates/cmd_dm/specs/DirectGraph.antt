@@ -30,7 +30,7 @@ type_triple base table i = record { subject = row_node i; predicate = rdf_type; 
 abbrev pub literal_triple : List ℕ → TextTable → ℕ → List ℕ → List ℕ → Statement
 literal_triple base table i column cell = record {
   subject = row_node i;
-  predicate = column_iri base table.name column;
+  predicate = column_iri base (record { table = table.name; column = column });
   object = term.Literal (record { text = cell; kind = Plain });
 }
 
