@@ -1,5 +1,5 @@
 -- Texts by their bytes and by their characters.
-use Rattle.std.proofs.Common.{◌≡◌, ◌≢◌, ℕ, suc, zero, Bool, true, false, List, [], ◌∷◌, ◌++◌, refl, ap, ◌∙◌, sym, subst, arith, not, take, drop, nat_eq, lit<}
+use Rattle.std.proofs.Common.{◌≡◌, ◌≢◌, ◌<◌, ℕ, suc, zero, Bool, true, false, List, [], ◌∷◌, ◌++◌, refl, ap, ◌∙◌, sym, subst, arith, not, take, drop, nat_eq, lit<}
 use Rattle.std.specs.Prelude.{codes}
 use Rattle.std.specs.List.{starts_with}
 use Rattle.std.specs.Cmp.Lexicographic.{pointwise, bytes_decides}
@@ -7,11 +7,13 @@ use Rattle.std.specs.Str.{IsAscii, IsUtf8, chars, encode_utf8_all}
 use Rattle.std.proofs.lemmas.Bool.{true≢false}
 use Rattle.std.specs.Char.{encode_utf8}
 use Rattle.std.proofs.lemmas.List.{take-append-drop}
-use Rattle.value_dm.specs.Reading.{BeginsWithTwoBackslashes}
+use Rattle.value_dm.specs.Reading.{BeginsWithBackslash, BeginsWithTwoBackslashes}
 use Rattle.value_dm.specs.Spelling.{unescaped}
 use Rattle.value_dm.specs.declared.kind.Kind.{Kind}
 use Rattle.value_dm.specs.declared.kind.Kind.TheVariants as kind
-use Rattle.std.proofs.lemmas.Str.{IsUtf8-past_char, chars_past_char, encode_ascii, encodes-chars, encodes-IsAscii, chars-IsAscii}
+use Rattle.std.proofs.lemmas.Str.{IsUtf8-append, IsUtf8-from_ascii, IsUtf8-past_char, chars_past_char, encode_ascii, encodes-chars, encodes-IsAscii, chars-IsAscii}
+use Rattle.value_dm.specs.Lexical.{escaped}
+use Rattle.value_dm.specs.Written.{Writes}
 
 pub not_equal_texts : (a b : List ℕ) → true ≡ not (pointwise nat_eq a b) → a ≡ b → ⊥
 not_equal_texts a b h e = true≢false (h ∙ ap not ((bytes_decides a b).1 e))
@@ -84,3 +86,62 @@ unescaped_other text utf8 other = by_test (starts_with nat_eq (chars text) (code
 pub unescaped_kind : (k : Kind) (field : List ℕ) → k ≢ kind.Text → unescaped k field ≡ field
 unescaped_kind kind.Text field h = absurd (h refl)
 unescaped_kind k field h = refl
+
+backslash_ascii : IsAscii (92 ∷ [])
+backslash_ascii zero = omega arith
+backslash_ascii (suc i) = omega arith
+
+-- an ASCII character in front
+pub writes_cons : (c : ℕ) (text cs : List ℕ) → c < 128 → IsUtf8 text → Writes text cs → Writes (c ∷ text) (c ∷ cs)
+writes_cons c text cs small utf8 h =
+    let front : encode_utf8 c ≡ c ∷ [] = encode_ascii c small in
+    let parts : c ∷ text ≡ encode_utf8 c ++ text = ap (λ x. x ++ text) (sym front) in
+    let own = IsUtf8-append (c ∷ []) text (IsUtf8-from_ascii (c ∷ []) (one c small)) utf8 in
+    record {
+      encoded = parts ∙ ap (λ x. encode_utf8 c ++ x) h.encoded;
+      decoded = chars_past_char (c ∷ text) text c own parts ∙ ap (λ x. c ∷ x) h.decoded;
+    }
+  where
+    one : (c : ℕ) → c < 128 → IsAscii (c ∷ [])
+    one c small zero = small
+    one c small (suc i) = omega arith
+
+pub writes_own : (text : List ℕ) → IsUtf8 text → Writes text (chars text)
+writes_own text utf8 = record { encoded = sym (encodes-chars text utf8); decoded = refl }
+
+pub writes_along : (text cs ds : List ℕ) → cs ≡ ds → Writes text cs → Writes text ds
+writes_along text cs ds e h = let P : List ℕ → Type 0 = Writes text in subst P e h
+
+pub escaped_one : (text : List ℕ) → IsUtf8 text → BeginsWithBackslash text → escaped (chars text) ≡ 92 ∷ chars text
+escaped_one [] utf8 h = absurd h
+escaped_one (a ∷ rest) utf8 h =
+    let own = behind_backslash (a ∷ rest) rest utf8 (ap (λ x. x ∷ rest) h) in
+    rw own.0 refl
+
+pub escaped_none : (text : List ℕ) → IsUtf8 text → (BeginsWithBackslash text → ⊥) → escaped (chars text) ≡ chars text
+escaped_none text utf8 other = by_test (starts_with nat_eq (chars text) (codes "\\")) refl
+  where
+    by_test : (b : Bool) → starts_with nat_eq (chars text) (codes "\\") ≡ b → escaped (chars text) ≡ chars text
+    by_test false e = rw e refl
+    by_test true e =
+        let front : 92 ∷ [] ≡ take 1 (chars text) = (bytes_decides (92 ∷ []) (take 1 (chars text))).0 e in
+        let all : chars text ≡ 92 ∷ drop 1 (chars text) = sym (take-append-drop 1 (chars text)) ∙ ap (λ x. x ++ drop 1 (chars text)) (sym front) in
+        let bytes : text ≡ 92 ∷ encode_utf8_all (drop 1 (chars text)) = sym (encodes-chars text utf8) ∙ ap encode_utf8_all all ∙ one_backslash (drop 1 (chars text)) in
+        let P : List ℕ → Type 0 = BeginsWithBackslash in
+        absurd (other (subst P (sym bytes) refl))
+      where
+        one_backslash : (cs : List ℕ) → encode_utf8_all (92 ∷ cs) ≡ 92 ∷ encode_utf8_all cs
+        one_backslash cs = rw (encode_ascii 92 (lit< tt)) refl
+
+pub null_written : (bytes : List ℕ) → bytes ≡ 92 ∷ 78 ∷ [] → Writes bytes (92 ∷ 78 ∷ [])
+null_written bytes e = record {
+  encoded = e ∙ sym (encodes-IsAscii (92 ∷ 78 ∷ []) null_ascii);
+  decoded = ap chars e ∙ chars-IsAscii (92 ∷ 78 ∷ []) null_ascii;
+}
+
+pub utf8_cons : (c : ℕ) (text : List ℕ) → c < 128 → IsUtf8 text → IsUtf8 (c ∷ text)
+utf8_cons c text small utf8 = IsUtf8-append (c ∷ []) text (IsUtf8-from_ascii (c ∷ []) (one c small)) utf8
+  where
+    one : (c : ℕ) → c < 128 → IsAscii (c ∷ [])
+    one c small zero = small
+    one c small (suc i) = omega arith

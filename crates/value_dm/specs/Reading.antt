@@ -28,3 +28,7 @@ abbrev pub BeginsWithTwoBackslashes : List ℕ → Type 0
 BeginsWithTwoBackslashes [] = ⊥
 BeginsWithTwoBackslashes (a ∷ []) = ⊥
 BeginsWithTwoBackslashes (a ∷ b ∷ rest) = (a ≡ 92) × (b ≡ 92)
+
+abbrev pub BeginsWithBackslash : List ℕ → Type 0
+BeginsWithBackslash [] = ⊥
+BeginsWithBackslash (a ∷ rest) = a ≡ 92

@@ -128,3 +128,6 @@ IsNull k field m = (field ≡ codes "\\N") ⊎ ((field ≡ []) × ((k ≢ kind.T
 abbrev pub Spells : Kind → List ℕ → NullMode → Option Value → Type 0
 Spells k field m None = IsNull k field m
 Spells k field m (Some v) = (¬ IsNull k field m) × (kind_of v ≡ k) × SpellsValue (unescaped k field) v
+
+abbrev pub mode_plain : NullMode
+mode_plain = mode.Plain

@@ -21,6 +21,7 @@ mod reading;
 mod sequence;
 mod text;
 mod value;
+mod writing;
 
 pub use bytes::Bytes;
 pub use calendar::{Date, DateTime, Time};
@@ -36,6 +37,7 @@ pub use reading::read_lexical;
 pub use sequence::{AllocFailed, Sequence};
 pub use text::Text;
 pub use value::{Cell, Cells, Value};
+pub use writing::field_text;
 
 /// Texts in order.
 pub type Names = Sequence<Text>;
