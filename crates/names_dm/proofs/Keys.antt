@@ -78,7 +78,7 @@ same_part_of_key : (a b : KeyPart) → IsLawful a.value → IsLawful b.value →
 unfolding key_pair
 same_part_of_key a b lawful_a lawful_b kinds same =
     let sides = same_sides equals_sign (safe_form a.column) (safe_form (lexical_form a.value)) (safe_form b.column) (safe_form (lexical_form b.value))
-        (form_lacks equals_sign a.column equals_sign_out) (form_lacks equals_sign b.column equals_sign_out) same in
+    (form_lacks equals_sign a.column equals_sign_out) (form_lacks equals_sign b.column equals_sign_out) same in
     let column = safe_form-injective a.column b.column sides.0 in
     let form = safe_form-injective (lexical_form a.value) (lexical_form b.value) sides.1 in
     let value = lexical_form_one a.value b.value lawful_a lawful_b kinds form in
@@ -114,7 +114,7 @@ same_key (x ∷ a) (y ∷ b) lawful_a lawful_b kinds same =
 pub same_row : (base t u : List ℕ) (a b : List KeyPart) → AreLawful a → AreLawful b → SameKinds a b → row_iri base t a ≡ row_iri base u b → (t ≡ u) × (a ≡ b)
 same_row base t u a b lawful_a lawful_b kinds same =
     let sides = same_sides slash (safe_form t) (key_list a) (safe_form u) (key_list b) (form_lacks slash t slash_out) (form_lacks slash u slash_out)
-        (same_part base (safe_form t ++ slash ∷ key_list a) (safe_form u ++ slash ∷ key_list b) same) in
+    (same_part base (safe_form t ++ slash ∷ key_list a) (safe_form u ++ slash ∷ key_list b) same) in
     (safe_form-injective t u sides.0, same_key a b lawful_a lawful_b kinds sides.1)
 
 -- ---- rows and other names
@@ -129,7 +129,7 @@ row_is_no_local : (base table : List ℕ) (key : List KeyPart) (other rest : Lis
 row_is_no_local base table key other rest same =
     let part = same_part base (safe_form table ++ slash ∷ key_list key) (safe_form other ++ number_sign ∷ rest) same in
     let none : lacks number_sign (safe_form table ++ slash ∷ key_list key) ≡ true =
-        lacks-append number_sign slash (safe_form table) (key_list key) (form_lacks number_sign table number_sign_out) refl (key_list_lacks key) in
+    lacks-append number_sign slash (safe_form table) (key_list key) (form_lacks number_sign table number_sign_out) refl (key_list_lacks key) in
     cc (sym (has_mark number_sign (safe_form other) rest) ∙ ap (lacks number_sign) (sym part) ∙ none)
 
 ref_is_local : (base table : List ℕ) (key : List KeyPart) (other : RefName) → row_iri base table key ≡ base ++ (safe_form other.table ++ number_sign ∷ (codes "ref-" ++ column_list other.columns)) → ⊥
@@ -138,9 +138,9 @@ ref_is_local base table key other same = row_is_no_local base table key other.ta
 pub rows_apart : (base : List ℕ) → RowsApart base
 rows_apart base = record {
   row_table = λ table key other same.
-    no_mark slash other (safe_form table) (key_list key) slash_out (sym (same_part base (safe_form table ++ slash ∷ key_list key) (safe_form other) same));
+      no_mark slash other (safe_form table) (key_list key) slash_out (sym (same_part base (safe_form table ++ slash ∷ key_list key) (safe_form other) same));
   row_column = λ table key other same. row_is_no_local base table key other.table (safe_form other.column) same;
   row_ref = ref_is_local base;
   row_rel = λ table key other same.
-    row_is_no_local base table key other.table (codes "rel-" ++ (pairing other.left other.left_target ++ semicolon ∷ pairing other.right other.right_target)) same
+      row_is_no_local base table key other.table (codes "rel-" ++ (pairing other.left other.left_target ++ semicolon ∷ pairing other.right other.right_target)) same;
 }

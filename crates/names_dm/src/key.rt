@@ -59,20 +59,13 @@ fn with_key(alloc: Global, spelling: Spelling, key: &KeyParts) -> Result<Spellin
 /// The IRI of a row: its table's, `/` and the columns of the key in its order, each with `=` and the safe form of its
 /// value's lexical form, semicolons between them. Two rows whose values have the same kinds, place by place, share an
 /// IRI only where table and key are the same. Refused for want of memory alone.
-pub fn row_iri(
-    alloc: Global,
-    base: &Base,
-    table: &str,
-    key: &KeyParts,
-) -> Result<Iri, AllocError>
+pub fn row_iri(alloc: Global, base: &Base, table: &str, key: &KeyParts) -> Result<Iri, AllocError>
     ensures text { IfOk result (λ iri. iri ≡ row_iri base.now (chars table.now) key.now) }
     ensures apart { IfOk result (λ iri. (other : List ℕ) (others : List AnyPart) → AreLawful others → SameKinds others key.now →
         row_iri base.now other others ≡ iri → (other ≡ chars table.now) × (others ≡ key.now)) }
     ensures rows { OnOk result (RowsApart base.now) }
 {
-    let start = Spelling::new(alloc, base)?
-        .with_safe(table)?
-        .with("/")?;
+    let start = Spelling::new(alloc, base)?.with_safe(table)?.with("/")?;
     let whole = with_key(alloc, start, key)?;
     let iri = whole.into_iri(alloc)?;
     Ok(iri)

@@ -13,8 +13,8 @@ returns-clause-text c =
 pub returns-clause-apart : goal.returns-clause-apart
 returns-clause-apart c = λ other others lawful kinds same.
     let text : c.in_ok-iri.iri ≡ row_iri c.args.base.now (chars c.args.table.now) c.args.key.now =
-        rw (c.in_ok-iri.ensures, c.in_ok-whole.ensures.text, c.in_ok-start.ensures, c.in_ok-with_safe.ensures, c.in_ok-new.ensures)
-        (four_parts c.args.base.now (safe_form (chars c.args.table.now)) (slash ∷ []) (key_list c.args.key.now)) in
+    rw (c.in_ok-iri.ensures, c.in_ok-whole.ensures.text, c.in_ok-start.ensures, c.in_ok-with_safe.ensures, c.in_ok-new.ensures)
+    (four_parts c.args.base.now (safe_form (chars c.args.table.now)) (slash ∷ []) (key_list c.args.key.now)) in
     same_row c.args.base.now other (chars c.args.table.now) others c.args.key.now lawful c.in_ok-whole.ensures.lawful kinds (same ∙ text)
 
 pub returns-clause-rows : goal.returns-clause-rows

@@ -12,13 +12,12 @@ loop-part-preserved c =
     let part = c.part-item.result in
     let item : get_or key i part ≡ part = sym (c.part-item.is ∙ ap (λ ys. get_or ys i part) c.as_slice-part-items.ensures) in
     let more : take (i + 1) key ≡ take i key ++ part ∷ [] =
-        take_more key i part (rw c.as_slice-part-items.ensures at c.loop-part-test.true) ∙ ap (λ y. take i key ++ y ∷ []) item in
-    (
+    take_more key i part (rw c.as_slice-part-items.ensures at c.loop-part-test.true) ∙ ap (λ y. take i key ++ y ∷ []) item in (
       rw more (
-        c.in_ok-spelling.ensures.text
-        ∙ rw (c.in_ok-with.ensures, c.loop-part.invariant.0, c.mark_before.ensures, c.loop-part.invariant.1)
+          c.in_ok-spelling.ensures.text
+          ∙ rw (c.in_ok-with.ensures, c.loop-part.invariant.0, c.mark_before.ensures, c.loop-part.invariant.1)
           (four_parts c.args.spelling (key_list (take i key)) _ (key_pair part) ∙ ap (λ (t : List ℕ). c.args.spelling ++ t) (sym (key_list-push (take i key) part)))
-      ),
+          ),
       rw more (is_empty-key_push (take i key) part),
       rw more (AreLawful-push (take i key) part c.loop-part.invariant.2 c.in_ok-spelling.ensures.lawful),
     )
