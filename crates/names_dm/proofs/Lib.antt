@@ -1,6 +1,7 @@
 mod Ascii
 mod Cuts
 mod Escapes
+mod Keys
 mod Lists
 mod Marks
 mod NamesApart

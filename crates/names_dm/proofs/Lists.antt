@@ -7,7 +7,7 @@ use Rattle.names_dm.specs.IriSafe.{safe_form}
 use Rattle.names_dm.specs.Names.{column_list, semicolon}
 use Rattle.names_dm.proofs.Words.{is_empty_list}
 
-join-push : (c : ℕ) (xs : List (List ℕ)) (y : List ℕ) → join_with_byte c (xs ++ y ∷ []) ≡ join_with_byte c xs ++ ((if is_empty_list xs then [] else c ∷ []) ++ y)
+pub join-push : (c : ℕ) (xs : List (List ℕ)) (y : List ℕ) → join_with_byte c (xs ++ y ∷ []) ≡ join_with_byte c xs ++ ((if is_empty_list xs then [] else c ∷ []) ++ y)
 join-push c [] y = refl
 join-push c (x ∷ []) y = refl
 join-push c (x ∷ z ∷ zs) y =

@@ -30,10 +30,10 @@ told_some_ref base name some = go name.columns refl where
       rw same (told_ref-ref base name.table column columns)
 
 -- below one base the parts are the same
-same_part : (base a b : List ℕ) → base ++ a ≡ base ++ b → a ≡ b
+pub same_part : (base a b : List ℕ) → base ++ a ≡ base ++ b → a ≡ b
 same_part base a b same = some_same a b (sym (after-append base a) ∙ ap (after base) same ∙ after-append base b)
 
-has_mark : (c : ℕ) (front back : List ℕ) → lacks c (front ++ c ∷ back) ≡ false
+pub has_mark : (c : ℕ) (front back : List ℕ) → lacks c (front ++ c ∷ back) ≡ false
 has_mark c [] back = rw (eqb-same c) refl
 has_mark c (d ∷ front) back = elim (cases_Bool (eqb d c)) [
   | inl same ↦ rw same refl
@@ -53,7 +53,7 @@ unfolding stays
 equals_sign_out = refl
 
 -- a safe form holds no mark
-no_mark : (c : ℕ) (text front back : List ℕ) → in_safe c ≡ false → safe_form text ≡ front ++ c ∷ back → ⊥
+pub no_mark : (c : ℕ) (text front back : List ℕ) → in_safe c ≡ false → safe_form text ≡ front ++ c ∷ back → ⊥
 no_mark c text front back out same = cc (sym (has_mark c front back) ∙ ap (lacks c) (sym same) ∙ form_lacks c text out)
 
 table_is_no_local : (base table other rest : List ℕ) → table_iri base table ≡ base ++ (safe_form other ++ number_sign ∷ rest) → ⊥

@@ -8,6 +8,7 @@ pub mod Meanings
 pub mod Names
 pub mod Namespaces
 pub mod Reading
+pub mod Rows
 pub mod Statements
 pub mod Terminals
 pub mod Variables

@@ -34,7 +34,7 @@ pub fn column_iri(alloc: Global, base: &Base, table: &str, column: &str) -> Resu
 }
 
 // What stands before a column in a list.
-fn mark_before(first: bool) -> &'static str
+pub(crate) fn mark_before(first: bool) -> &'static str
     ensures { result.now ≡ (if first then [] else semicolon ∷ []) }
 {
     if first { "" } else { ";" }

@@ -1,11 +1,11 @@
 use crate::{
-    Base, Iri, Label, Literal, LiteralType, RelName, SafeError, Tag, Term,
+    Base, Iri, KeyPart, KeyParts, Label, Literal, LiteralType, RelName, SafeError, Tag, Term,
     Triple, Var, column_iri, read_column_iri, read_ref_iri, read_rel_iri, read_table_iri, ref_iri,
-    rel_iri, row_label, safe, table_iri, unsafe_of, variable,
+    rel_iri, row_iri, row_label, safe, table_iri, unsafe_of, variable,
 };
 use std::alloc::{AllocError, Global};
 use std::test::Fail;
-use value_dm::{Names, Text, TryCopy};
+use value_dm::{Names, Text, TryCopy, Value};
 
 const BASE: &str = "http://foo.example/DB/";
 
@@ -192,7 +192,10 @@ fn makers_and_readers(rt: HostRuntime) -> Result<(), Fail> {
     assert!(rt; read_column_iri(alloc, &base, &table)?.is_none());
 
     let column = column_iri(alloc, &base, "a b/c", "x;y=z")?;
-    assert_eq!(rt; column.as_str(), "http://foo.example/DB/a%20b%2Fc#x%3By%3Dz");
+    assert_eq!(rt;
+        column.as_str(),
+        "http://foo.example/DB/a%20b%2Fc#x%3By%3Dz"
+    );
     let told = read_column_iri(alloc, &base, &column)?.ok_or("no column")?;
     assert_eq!(rt; told.table.as_str(), "a b/c");
     assert_eq!(rt; told.column.as_str(), "x;y=z");
@@ -219,7 +222,10 @@ fn makers_and_readers(rt: HostRuntime) -> Result<(), Fail> {
         right_target: text(alloc, "code")?,
     };
     let relation = rel_iri(alloc, &base, &name)?;
-    assert_eq!(rt; relation.as_str(), "http://foo.example/DB/Enrolled#rel-student=id;course=code");
+    assert_eq!(rt;
+        relation.as_str(),
+        "http://foo.example/DB/Enrolled#rel-student=id;course=code"
+    );
     let told = read_rel_iri(alloc, &base, &relation)?.ok_or("no relation")?;
     assert!(rt; told == name);
     assert!(rt; told.copy(alloc)? == name);
@@ -234,17 +240,51 @@ fn iri(alloc: Global, letters: &str) -> Result<Iri, Fail> {
 fn other_iris(rt: HostRuntime) -> Result<(), Fail> {
     let alloc = rt.alloc();
     let base = base(alloc)?.ok_or("no base")?;
-    for letters in ["http://foo.example/DB/", "http://foo.example/DB/\u{FEFF}T", "http://foo.example/DB/%41", "http://foo.example/DB/T/id=1", "http://foo.example/T"] {
-        assert!(rt; read_table_iri(alloc, &base, &iri(alloc, letters)?)?.is_none(), "{letters}");
+    for letters in [
+        "http://foo.example/DB/",
+        "http://foo.example/DB/\u{FEFF}T",
+        "http://foo.example/DB/%41",
+        "http://foo.example/DB/T/id=1",
+        "http://foo.example/T",
+    ] {
+        assert!(rt;
+            read_table_iri(alloc, &base, &iri(alloc, letters)?)?.is_none(),
+            "{letters}"
+        );
     }
-    for letters in ["http://foo.example/DB/T#", "http://foo.example/DB/#a", "http://foo.example/DB/T#a#b", "http://foo.example/DB/T#%2f", "http://foo.example/DB/T#\u{FEFF}"] {
-        assert!(rt; read_column_iri(alloc, &base, &iri(alloc, letters)?)?.is_none(), "{letters}");
+    for letters in [
+        "http://foo.example/DB/T#",
+        "http://foo.example/DB/#a",
+        "http://foo.example/DB/T#a#b",
+        "http://foo.example/DB/T#%2f",
+        "http://foo.example/DB/T#\u{FEFF}",
+    ] {
+        assert!(rt;
+            read_column_iri(alloc, &base, &iri(alloc, letters)?)?.is_none(),
+            "{letters}"
+        );
     }
-    for letters in ["http://foo.example/DB/T#ref-", "http://foo.example/DB/T#ref-a;", "http://foo.example/DB/T#a", "http://foo.example/DB/T#ref-a=b"] {
-        assert!(rt; read_ref_iri(alloc, &base, &iri(alloc, letters)?)?.is_none(), "{letters}");
+    for letters in [
+        "http://foo.example/DB/T#ref-",
+        "http://foo.example/DB/T#ref-a;",
+        "http://foo.example/DB/T#a",
+        "http://foo.example/DB/T#ref-a=b",
+    ] {
+        assert!(rt;
+            read_ref_iri(alloc, &base, &iri(alloc, letters)?)?.is_none(),
+            "{letters}"
+        );
     }
-    for letters in ["http://foo.example/DB/T#rel-a=b", "http://foo.example/DB/T#rel-a=b;c=", "http://foo.example/DB/T#rel-a=b;c=d;e=f", "http://foo.example/DB/T#ref-a"] {
-        assert!(rt; read_rel_iri(alloc, &base, &iri(alloc, letters)?)?.is_none(), "{letters}");
+    for letters in [
+        "http://foo.example/DB/T#rel-a=b",
+        "http://foo.example/DB/T#rel-a=b;c=",
+        "http://foo.example/DB/T#rel-a=b;c=d;e=f",
+        "http://foo.example/DB/T#ref-a",
+    ] {
+        assert!(rt;
+            read_rel_iri(alloc, &base, &iri(alloc, letters)?)?.is_none(),
+            "{letters}"
+        );
     }
     Ok(())
 }
@@ -265,11 +305,52 @@ fn terms(rt: HostRuntime) -> Result<(), Fail> {
     assert!(rt; plain != typed);
     assert!(rt; typed.copy(alloc)? == typed);
     let property = iri(alloc, "http://a/p")?;
-    assert!(rt; Triple::new(Term::Literal(typed), property.copy(alloc)?, Term::Literal(plain)).is_none());
+    assert!(rt;
+        Triple::new(
+            Term::Literal(typed),
+            property.copy(alloc)?,
+            Term::Literal(plain)
+        )
+        .is_none()
+    );
     let subject = Term::Blank(row_label(alloc, 1, 1)?);
-    let triple = Triple::new(subject, property, Term::Iri(iri(alloc, "http://a/o")?)).ok_or("no triple")?;
+    let triple = Triple::new(subject, property, Term::Iri(iri(alloc, "http://a/o")?)).ok_or(
+        "no triple",
+    )?;
     assert!(rt; triple.copy(alloc)? == triple);
     assert_eq!(rt; triple.predicate().as_str(), "http://a/p");
     assert!(rt; triple.subject() != triple.object());
+    Ok(())
+}
+
+fn key(alloc: Global, parts: [(&str, Value); 2]) -> Result<KeyParts, AllocError> {
+    let mut key = KeyParts::new(alloc);
+    for (column, value) in parts {
+        let column = text(alloc, column)?;
+        key.push(KeyPart { column, value })?;
+    }
+    Ok(key)
+}
+
+#[test]
+fn rows(rt: HostRuntime) -> Result<(), Fail> {
+    let alloc = rt.alloc();
+    let base = base(alloc)?.ok_or("no base")?;
+    let values = [
+        (
+            Value::Text(text(alloc, "x;b=y")?),
+            "http://foo.example/DB/K/a=x%3Bb%3Dy;b=z",
+        ),
+        (
+            Value::Text(text(alloc, "")?),
+            "http://foo.example/DB/K/a=;b=z",
+        ),
+        (Value::Integer(18), "http://foo.example/DB/K/a=18;b=z"),
+    ];
+    for (value, letters) in values {
+        let key = key(alloc, [("a", value), ("b", Value::Text(text(alloc, "z")?))])?;
+        assert_eq!(rt; row_iri(alloc, &base, "K", &key)?.as_str(), letters);
+        assert!(rt; key.copy(alloc)? == key);
+    }
     Ok(())
 }
