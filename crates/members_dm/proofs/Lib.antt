@@ -1,2 +1,4 @@
+pub mod ElementsLemmas
+pub mod ElementsTests
 pub mod MembershipLemmas
 pub mod PlacesLemmas

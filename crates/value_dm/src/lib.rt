@@ -4,12 +4,14 @@
 mod bytes;
 mod copies;
 mod exact;
+mod kind;
 mod sequence;
 mod text;
 
 pub use bytes::Bytes;
 pub use copies::TryCopy;
 pub use exact::{ExactEq, same};
+pub use kind::Kind;
 pub use sequence::{AllocFailed, Sequence};
 pub use text::Text;
 
