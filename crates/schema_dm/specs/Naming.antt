@@ -1,0 +1,30 @@
+-- Names of tables and columns, and the places at which names stand.
+use Rattle.std.specs.Prelude.{◌≡◌, ℕ, List, [], ◌∷◌, Bool, Option, map, nat_eq, slice_get}
+use Rattle.std.specs.Option.{option_map}
+use Rattle.std.specs.List.{position_or_len}
+use Rattle.std.specs.Cmp.Lexicographic.{pointwise}
+use Rattle.value_dm.specs.declared.kind.Kind.{Kind}
+use Rattle.schema_dm.specs.declared.draft.Column.{Column}
+
+-- an identifier by its characters (ISO/IEC 9075-2, 5.4); identifiers are compared as they are written
+abbrev pub Name : Type 0
+Name = List ℕ
+
+abbrev pub same_name : Name → Name → Bool
+same_name x y = pointwise nat_eq x y
+
+-- a name is bad that is empty, or begins with the byte order mark U+FEFF
+abbrev pub IsBadName : Name → Type 0
+IsBadName [] = Unit {0}
+IsBadName (c ∷ cs) = c ≡ 65279
+
+abbrev pub column_names : List Column → List Name
+column_names columns = map (λ column. column.name) columns
+
+-- the first place of the name, or the number of names where it is none of them
+abbrev pub place_of : List Name → Name → ℕ
+place_of names name = position_or_len (λ other. same_name other name) names
+
+-- the kind of the column at the place
+abbrev pub kind_at : List Column → ℕ → Option Kind
+kind_at columns place = option_map (λ column. column.kind) (slice_get columns place)
