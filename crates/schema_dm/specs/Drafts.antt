@@ -1,7 +1,7 @@
 -- Drafts of tables, and the causes for which drafts stand for no schema.
 use Rattle.std.specs.Prelude.{◌≡◌, ◌≢◌, ◌⊎◌, ℕ, ◌+◌, ◌<◌, ◌≤◌, List, [], ◌∷◌, ◌++◌, Option, map, length, take, slice_get, codes}
 use Rattle.std.specs.declared.option.Option.TheVariants.{None, Some}
-use Rattle.std.specs.List.{zip}
+use Rattle.std.specs.List.{Any, position_or_len}
 use Rattle.std.specs.List.Sorted.{IsPermutation}
 use Rattle.value_dm.specs.declared.kind.Kind.{Kind}
 use Rattle.schema_dm.specs.declared.draft.Column.{Column}
@@ -10,26 +10,31 @@ use Rattle.schema_dm.specs.declared.draft.TableDraft.{TableDraft}
 use Rattle.schema_dm.specs.declared.refusal.SchemaCause.{SchemaCause}
 use Rattle.schema_dm.specs.declared.refusal.SchemaCause.TheVariants.{NoTable, TooManyTables, BadName, NoColumn, TooManyColumns, DuplicateTable, DuplicateColumn, UnknownColumn, UnknownTable, TwoPrimaryKeys, NotAKey, KindMismatch, SameColumnsTwice, NameClash}
 use Rattle.schema_dm.specs.declared.refusal.SchemaError.{SchemaError}
-use Rattle.members_dm.specs.Membership.{IsIn}
-use Rattle.members_dm.specs.Elements.{HasSome, Repeats}
-use Rattle.schema_dm.specs.Naming.{Name, IsBadName, column_names, place_of, kind_at}
+use Rattle.members_dm.specs.Elements.{Repeats}
+use Rattle.schema_dm.specs.Naming.{Name, same_name, IsBadName, column_names, Declares, column_place, kind_at}
 
 -- ---- a draft's keys
 
--- the unique column lists of the table's unique constraint definitions, PRIMARY KEY and UNIQUE (ISO/IEC 9075-2, 11.7)
-abbrev pub unique_lists : TableDraft → List (List Name)
-unique_lists draft = draft.primaries ++ draft.uniques
+-- a column list of a unique constraint definition of the draft, PRIMARY KEY or UNIQUE, is such (ISO/IEC 9075-2, 11.7)
+abbrev pub AnyUniqueList : (List Name → Type 0) → TableDraft → Type 0
+AnyUniqueList P draft = Any P draft.primaries ⊎ Any P draft.uniques
 
--- the column lists that name columns of the draft itself: those, and the referencing columns (11.8)
-abbrev pub own_lists : TableDraft → List (List Name)
-own_lists draft = unique_lists draft ++ map (λ key. key.columns) draft.foreign
+-- a list of the draft's own columns in one of its keys is such: one of those, or the referencing columns of a
+-- foreign key (11.8)
+abbrev pub AnyOwnList : (List Name → Type 0) → TableDraft → Type 0
+AnyOwnList P draft = AnyUniqueList P draft ⊎ Any (λ key. P key.columns) draft.foreign
 
-abbrev pub table_names : List TableDraft → List Name
-table_names drafts = map (λ draft. draft.name) drafts
+-- a table of the name is declared
+abbrev pub DeclaresTable : List TableDraft → Name → Type 0
+DeclaresTable drafts name = Any (λ draft. draft.name ≡ name) drafts
+
+-- the place of the first table of the name, or the number of tables where there is none
+abbrev pub table_place : List TableDraft → Name → ℕ
+table_place drafts name = position_or_len (λ draft. same_name draft.name name) drafts
 
 -- the referenced table: the first of its name
 abbrev pub target_of : List TableDraft → ForeignDraft → Option TableDraft
-target_of drafts key = slice_get drafts (place_of (table_names drafts) key.target)
+target_of drafts key = slice_get drafts (table_place drafts key.target)
 
 -- the referenced columns: those that are given, or else the columns of the first primary key of the
 -- referenced table (ISO/IEC 9075-2, 11.8, where the reference column list is left out)
@@ -42,15 +47,15 @@ referenced_columns key target = given_or_primary key.target_columns target.prima
 
 -- ---- what one foreign key may lack
 
--- ISO/IEC 9075-2, 11.8: as many referenced columns as referencing ones, which are, in some order, the
+-- ISO/IEC 9075-2, 11.8: there are as many referenced columns as referencing ones, and they are in some order the
 -- columns of a unique constraint of the referenced table
-abbrev pub IsNoKeyOf : List Name → TableDraft → Option (List Name) → Type 0
-IsNoKeyOf columns target None = Unit {0}
-IsNoKeyOf columns target (Some names) = (length names ≢ length columns) ⊎ (¬ HasSome (IsPermutation names) (unique_lists target))
+abbrev pub AreNoKey : List Name → TableDraft → Option (List Name) → Type 0
+AreNoKey columns target None = Unit {0}
+AreNoKey columns target (Some names) = (length names ≢ length columns) ⊎ (¬ AnyUniqueList (IsPermutation names) target)
 
 abbrev pub ReferencesNoKey : ForeignDraft → Option TableDraft → Type 0
 ReferencesNoKey key None = ⊥
-ReferencesNoKey key (Some target) = IsNoKeyOf key.columns target (referenced_columns key target)
+ReferencesNoKey key (Some target) = AreNoKey key.columns target (referenced_columns key target)
 
 abbrev pub KindsDiffer : Option Kind → Option Kind → Type 0
 KindsDiffer (Some kind) (Some other) = kind ≢ other
@@ -58,22 +63,27 @@ KindsDiffer _ _ = ⊥
 
 -- the kind of the first column of the name
 abbrev pub kind_of_name : List Column → Name → Option Kind
-kind_of_name columns name = kind_at columns (place_of (column_names columns) name)
+kind_of_name columns name = kind_at columns (column_place columns name)
 
 -- a column and its referenced column have different kinds (11.8: their declared types are comparable)
-abbrev pub MismatchesKinds : List Column → List Name → List Column → Option (List Name) → Type 0
-MismatchesKinds columns names others None = ⊥
-MismatchesKinds columns names others (Some targets) = HasSome {X = Name × Name} (λ pair. KindsDiffer (kind_of_name columns pair.0) (kind_of_name others pair.1)) (zip names targets)
+abbrev pub AnyKindsDiffer : List Column → List Name → List Column → List Name → Type 0
+AnyKindsDiffer columns (name ∷ names) others (target ∷ targets) =
+    KindsDiffer (kind_of_name columns name) (kind_of_name others target) ⊎ AnyKindsDiffer columns names others targets
+AnyKindsDiffer columns _ others _ = ⊥
 
-abbrev pub ReferencesOtherKinds : TableDraft → ForeignDraft → Option TableDraft → Type 0
-ReferencesOtherKinds draft key None = ⊥
-ReferencesOtherKinds draft key (Some target) = MismatchesKinds draft.columns key.columns target.columns (referenced_columns key target)
+abbrev pub KindsOfKeyDiffer : List Column → List Name → List Column → Option (List Name) → Type 0
+KindsOfKeyDiffer columns names others None = ⊥
+KindsOfKeyDiffer columns names others (Some targets) = AnyKindsDiffer columns names others targets
 
--- W3C, A Direct Mapping of Relational Data to RDF, 2.2: the reference property of the one column `x` is named
+abbrev pub ReferencesOtherKinds : List Column → ForeignDraft → Option TableDraft → Type 0
+ReferencesOtherKinds columns key None = ⊥
+ReferencesOtherKinds columns key (Some target) = KindsOfKeyDiffer columns key.columns target.columns (referenced_columns key target)
+
+-- W3C, A Direct Mapping of Relational Data to RDF, 2.2: the reference property of the column `x` alone is named
 -- `ref-x`, as is the literal property of a column `ref-x`
-abbrev pub IsClash : List Name → List Name → Type 0
-IsClash names (x ∷ []) = IsIn (codes "ref-" ++ x) names
-IsClash names _ = ⊥
+abbrev pub ClashesWith : List Column → List Name → Type 0
+ClashesWith columns (x ∷ []) = Declares columns (codes "ref-" ++ x)
+ClashesWith columns _ = ⊥
 
 -- ---- the causes
 
@@ -81,18 +91,18 @@ IsClash names _ = ⊥
 abbrev pub Holds : SchemaCause → List TableDraft → ℕ → TableDraft → Type 0
 Holds NoTable drafts place draft = ⊥
 Holds TooManyTables drafts place draft = ⊥
-Holds BadName drafts place draft = IsBadName draft.name ⊎ HasSome IsBadName (column_names draft.columns)
-Holds NoColumn drafts place draft = (draft.columns ≡ []) ⊎ IsIn [] (own_lists draft)
+Holds BadName drafts place draft = IsBadName draft.name ⊎ Any (λ column. IsBadName column.name) draft.columns
+Holds NoColumn drafts place draft = (length draft.columns ≡ 0) ⊎ AnyOwnList (λ names. length names ≡ 0) draft
 Holds TooManyColumns drafts place draft = 256 < length draft.columns
-Holds DuplicateTable drafts place draft = IsIn draft.name (table_names (take place drafts))
-Holds DuplicateColumn drafts place draft = Repeats (column_names draft.columns) ⊎ HasSome Repeats (own_lists draft)
-Holds UnknownColumn drafts place draft = HasSome (HasSome (λ name. ¬ IsIn name (column_names draft.columns))) (own_lists draft)
-Holds UnknownTable drafts place draft = HasSome (λ key. ¬ IsIn key.target (table_names drafts)) draft.foreign
+Holds DuplicateTable drafts place draft = DeclaresTable (take place drafts) draft.name
+Holds DuplicateColumn drafts place draft = Repeats (column_names draft.columns) ⊎ AnyOwnList Repeats draft
+Holds UnknownColumn drafts place draft = AnyOwnList (Any (λ name. ¬ Declares draft.columns name)) draft
+Holds UnknownTable drafts place draft = Any (λ key. ¬ DeclaresTable drafts key.target) draft.foreign
 Holds TwoPrimaryKeys drafts place draft = 1 < length draft.primaries
-Holds NotAKey drafts place draft = HasSome (λ key. ReferencesNoKey key (target_of drafts key)) draft.foreign
-Holds KindMismatch drafts place draft = HasSome (λ key. ReferencesOtherKinds draft key (target_of drafts key)) draft.foreign
+Holds NotAKey drafts place draft = Any (λ key. ReferencesNoKey key (target_of drafts key)) draft.foreign
+Holds KindMismatch drafts place draft = Any (λ key. ReferencesOtherKinds draft.columns key (target_of drafts key)) draft.foreign
 Holds SameColumnsTwice drafts place draft = Repeats (map (λ key. key.columns) draft.foreign)
-Holds NameClash drafts place draft = HasSome (λ key. IsClash (column_names draft.columns) key.columns) draft.foreign
+Holds NameClash drafts place draft = Any (λ key. ClashesWith draft.columns key.columns) draft.foreign
 
 -- the order in which causes are told
 abbrev pub rank : SchemaCause → ℕ

@@ -1,7 +1,7 @@
 -- Names of tables and columns, and the places at which names stand.
 use Rattle.std.specs.Prelude.{◌≡◌, ℕ, List, [], ◌∷◌, Bool, Option, map, nat_eq, slice_get}
 use Rattle.std.specs.Option.{option_map}
-use Rattle.std.specs.List.{position_or_len}
+use Rattle.std.specs.List.{Any, position_or_len}
 use Rattle.std.specs.Cmp.Lexicographic.{pointwise}
 use Rattle.value_dm.specs.declared.kind.Kind.{Kind}
 use Rattle.schema_dm.specs.declared.draft.Column.{Column}
@@ -21,9 +21,13 @@ IsBadName (c ∷ cs) = c ≡ 65279
 abbrev pub column_names : List Column → List Name
 column_names columns = map (λ column. column.name) columns
 
--- the first place of the name, or the number of names where it is none of them
-abbrev pub place_of : List Name → Name → ℕ
-place_of names name = position_or_len (λ other. same_name other name) names
+-- a column of the name is declared
+abbrev pub Declares : List Column → Name → Type 0
+Declares columns name = Any (λ column. column.name ≡ name) columns
+
+-- the place of the first column of the name, or the number of columns where there is none
+abbrev pub column_place : List Column → Name → ℕ
+column_place columns name = position_or_len (λ column. same_name column.name name) columns
 
 -- the kind of the column at the place
 abbrev pub kind_at : List Column → ℕ → Option Kind

@@ -14,9 +14,3 @@ pub fn is_bad_name(name: &Text) -> bool
         Some(first) => first == '\u{feff}',
     }
 }
-
-fn some_bad_name(columns: &[Column]) -> bool
-    ensures { IsTrue result ↔ Any (λ column. IsBadName column.name) columns.now }
-{
-    columns.iter().any(|column| is_bad_name(&column.name))
-}

@@ -4,6 +4,7 @@
 
 mod causes;
 mod draft;
+mod lookup;
 mod refusal;
 mod table;
 
