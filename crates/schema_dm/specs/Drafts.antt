@@ -125,12 +125,17 @@ rank NameClash = 13
 abbrev pub IsSound : List TableDraft → ℕ → TableDraft → Type 0
 IsSound drafts place draft = (cause : SchemaCause) → ¬ Holds cause drafts place draft
 
--- the cause holds of this draft, none holds of the drafts before it, and none that is told earlier holds of it
+-- no cause that is told before this one holds of the draft
+abbrev pub NoneEarlier : SchemaCause → List TableDraft → ℕ → TableDraft → Type 0
+NoneEarlier cause drafts place draft = (other : SchemaCause) → rank other < rank cause → ¬ Holds other drafts place draft
+
+-- the cause holds of this draft, none holds of the drafts before it, and none that is
+-- told earlier holds of it
 pub record IsFirst (cause : SchemaCause) (drafts : List TableDraft) (place : ℕ) (draft : TableDraft) : Type 0 where
   pub stands : slice_get drafts place ≡ Some draft
   pub holds : Holds cause drafts place draft
   pub sound_before : (j : ℕ) (other : TableDraft) → j < place → slice_get drafts j ≡ Some other → IsSound drafts j other
-  pub none_earlier : (other : SchemaCause) → rank other < rank cause → ¬ Holds other drafts place draft
+  pub none_earlier : NoneEarlier cause drafts place draft
 
 -- why the drafts stand for no schema: the first draft with a cause and its first cause, where the number of
 -- drafts is in range. Tables are counted from 1 here.

@@ -1,2 +1,4 @@
-pub mod Naming
 pub mod Drafts
+pub mod Naming
+pub mod Relations
+pub mod Schemas

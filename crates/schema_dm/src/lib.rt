@@ -2,16 +2,20 @@
 //! which tables are binary relations, and the shapes of tables without keys.
 #![tactic(auto)]
 
+mod build;
 mod causes;
 mod draft;
+mod keys;
 mod lookup;
 mod refusal;
+mod schema;
 mod table;
+mod verdict;
 
 pub use draft::{Column, ForeignDraft, TableDraft};
 pub use refusal::{SchemaCause, SchemaError, SchemaFault};
+pub use schema::Schema;
 pub use table::{Binary, ForeignKey, ShapeTable, Table};
-
 use value_dm::{Names, Sequence};
 
 /// Lists of names in order.

@@ -1,4 +1,4 @@
-ghost use Rattle.std.specs.Prelude.{◌≡◌, ◌↔◌, IsTrue, Any, map};
+ghost use Rattle.std.specs.Prelude.{◌≡◌, ◌≤◌, ◌↔◌, IsTrue, Any, length, map};
 ghost use Rattle.std.specs.List.{position, position_or_len};
 ghost use Rattle.members_dm.specs.Elements.{Repeats};
 
@@ -37,6 +37,14 @@ impl KeyedBy<Text> for TableDraft {
     }
 }
 
+impl KeyedBy<Names> for Names {
+    ghost key_of = { λ names. names };
+
+    fn key(&self) -> &Names {
+        self
+    }
+}
+
 impl KeyedBy<Names> for ForeignDraft {
     ghost key_of = { λ foreign. foreign.columns };
 
@@ -54,7 +62,8 @@ pub fn contains<K: ExactEq, T: KeyedBy<K>>(items: &[T], key: &K) -> bool
 
 /// The first place of the key, counted from 0, or the number of items where no item has it.
 pub fn place_of<K: PartialEq, T: KeyedBy<K>>(items: &[T], key: &K) -> usize
-    ensures { result ≡ position_or_len (λ item. K.eq (T.key_of item) key.now) items.now }
+    ensures place { result ≡ position_or_len (λ item. K.eq (T.key_of item) key.now) items.now }
+    ensures within { result ≤ length items.now }
 {
     first_place(items, key).unwrap_or(items.len())
 }

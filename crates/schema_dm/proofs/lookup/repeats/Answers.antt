@@ -1,5 +1,4 @@
 use Rattle.std.proofs.Common.{refl}
-use Rattle.std.proofs.lemmas.Bool.{iff_false}
 use Rattle.schema_dm.proofs.Lookups.{repeats_found, repeats_more}
 use Rattle.schema_dm.proofs.lookup.repeats.Goals as goal
 

@@ -1,0 +1,63 @@
+ghost use Rattle.std.specs.Prelude.{◌≡◌, IfOk, IfErr, OnOk};
+
+use crate::build::tables_of;
+use crate::verdict::first_error;
+use crate::{Drafts, SchemaFault, Table};
+use std::alloc::Global;
+use std::marker::Model;
+use value_dm::Sequence;
+
+/// The tables of a database, which contracts see as a list.
+///
+/// Every schema is valid: `tables` says what that means.
+#[derive(Drop)]
+pub struct Schema {
+    tables: Sequence<Table>,
+}
+
+impl Model for Schema {
+    ghost use Rattle.std.specs.Prelude.{List};
+    ghost use Rattle.schema_dm.specs.declared.table.Table.{Table};
+    ghost use Rattle.schema_dm.specs.Schemas.{IsSchema};
+
+    ghost Value = { List Table };
+
+    ghost view = { λ schema. schema.tables };
+
+    ghost invariant = { λ schema. IsSchema schema.tables };
+}
+
+impl Schema {
+    ghost use Rattle.schema_dm.specs.Drafts.{AreLawful};
+    ghost use Rattle.schema_dm.specs.Schemas.{IsRefusedWith, IsSchema, schema_of};
+
+    /// The schema of the drafts, with keys by places, after SQL's table, unique and referential
+    /// constraint definitions (ISO/IEC 9075-2, 11.3, 11.7 and 11.8). A foreign key without a list of
+    /// target columns references the target's primary key.
+    ///
+    /// `Bad` exactly where a cause of refusal holds: the first table with one is named, counted from
+    /// 1, with its first cause in the order of `SchemaCause`. `NoTable` and `TooManyTables`, for more
+    /// than 4,096, come before all others and name table 0.
+    pub fn new(alloc: Global, drafts: Drafts) -> Result<Schema, SchemaFault>
+        ensures made { IfOk result (λ schema. schema ≡ schema_of drafts) }
+        ensures lawful { OnOk result (AreLawful drafts) }
+        ensures refused { IfErr result (IsRefusedWith drafts) }
+    {
+        let listed = drafts.as_slice();
+        match first_error(listed) {
+            None => {}
+            Some(error) => return Err(SchemaFault::Bad(error)),
+        }
+        Ok(Schema {
+            tables: tables_of(alloc, listed)?,
+        })
+    }
+
+    /// The tables in declared order.
+    pub fn tables(&self) -> &[Table]
+        ensures value { result.now ≡ self.now }
+        ensures valid { IsSchema self.now }
+    {
+        self.tables.as_slice()
+    }
+}
