@@ -4,4 +4,7 @@ pub mod Lawful
 pub mod Lookups
 pub mod ReferenceNames
 pub mod Reordered
+pub mod RisingNames
 pub mod SameKinds
+pub mod ShapeRules
+pub mod Sides

@@ -2,3 +2,4 @@ pub mod Drafts
 pub mod Naming
 pub mod Relations
 pub mod Schemas
+pub mod Shapes

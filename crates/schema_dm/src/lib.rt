@@ -7,14 +7,18 @@ mod causes;
 mod draft;
 mod keys;
 mod lookup;
+mod order;
 mod refusal;
+mod relation;
 mod schema;
+mod shape;
 mod table;
 mod verdict;
 
 pub use draft::{Column, ForeignDraft, TableDraft};
 pub use refusal::{SchemaCause, SchemaError, SchemaFault};
 pub use schema::Schema;
+pub use shape::Shape;
 pub use table::{Binary, ForeignKey, ShapeTable, Table};
 use value_dm::{Names, Sequence};
 

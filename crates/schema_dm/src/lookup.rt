@@ -2,7 +2,7 @@ ghost use Rattle.std.specs.Prelude.{◌≡◌, ◌≤◌, ◌↔◌, IsTrue, Any
 ghost use Rattle.std.specs.List.{position, position_or_len};
 ghost use Rattle.members_dm.specs.Elements.{Repeats};
 
-use crate::{Column, ForeignDraft, TableDraft};
+use crate::{Column, ForeignDraft, ShapeTable, TableDraft};
 use value_dm::{ExactEq, Names, Text, same};
 
 /// A type whose values are told apart by a key.
@@ -31,6 +31,14 @@ impl KeyedBy<Text> for Column {
 
 impl KeyedBy<Text> for TableDraft {
     ghost key_of = { λ draft. draft.name };
+
+    fn key(&self) -> &Text {
+        &self.name
+    }
+}
+
+impl KeyedBy<Text> for ShapeTable {
+    ghost key_of = { λ table. table.name };
 
     fn key(&self) -> &Text {
         &self.name

@@ -1,8 +1,9 @@
-ghost use Rattle.std.specs.Prelude.{◌≡◌, IfOk, IfErr, OnOk};
+ghost use Rattle.std.specs.Prelude.{◌≡◌, ◌<◌, length, IfOk, IfErr, IfNone, IfSome, OnOk};
 
 use crate::build::tables_of;
+use crate::relation::sides;
 use crate::verdict::first_error;
-use crate::{Drafts, SchemaFault, Table};
+use crate::{Binary, Drafts, SchemaFault, Table};
 use std::alloc::Global;
 use std::marker::Model;
 use value_dm::Sequence;
@@ -28,7 +29,9 @@ impl Model for Schema {
 }
 
 impl Schema {
+    ghost use Rattle.schema_dm.specs.declared.table.Binary.{Binary as Sides};
     ghost use Rattle.schema_dm.specs.Drafts.{AreLawful};
+    ghost use Rattle.schema_dm.specs.Relations.{IsBinaryRelation};
     ghost use Rattle.schema_dm.specs.Schemas.{IsRefusedWith, IsSchema, schema_of};
 
     /// The schema of the drafts, with keys by places, after SQL's table, unique and referential
@@ -51,6 +54,20 @@ impl Schema {
         Ok(Schema {
             tables: tables_of(alloc, listed)?,
         })
+    }
+
+    /// The sides of the table at this place, counted from 0, where the table is a binary relation, and
+    /// else None. Takes no memory.
+    ///
+    /// A binary relation has exactly two columns, which are its primary key in either order, and exactly
+    /// two foreign keys, one on each column alone, each onto the whole primary key of its target; and no
+    /// foreign key of the schema has it as its target.
+    pub fn is_binary(&self, table: u32) -> Option<Binary>
+        requires { table < length self.now }
+        ensures found { IfSome result (IsBinaryRelation self.now table) }
+        ensures none { IfNone result ((sides : Sides) → ¬ IsBinaryRelation self.now table sides) }
+    {
+        sides(self.tables.as_slice(), table)
     }
 
     /// The tables in declared order.
