@@ -1,1 +1,10 @@
+pub mod Calendar
+pub mod Decimals
+pub mod Digits
 pub mod Equality
+pub mod Kinds
+pub mod Lexical
+pub mod Order
+pub mod Reading
+pub mod Sameness
+pub mod Spelling

@@ -1,6 +1,9 @@
 ghost use Rattle.std.specs.Prelude.{◌≡◌, ◌↔◌, IsTrue};
 
 use crate::bytes::Bytes;
+use crate::calendar::{Date, DateTime, Time};
+use crate::decimal::Decimal;
+use crate::kind::Kind;
 use crate::sequence::Sequence;
 use crate::text::Text;
 
@@ -27,6 +30,47 @@ impl<T: ExactEq> ExactEq for Sequence<T> {
     ghost use Rattle.value_dm.specs.Equality.{lists_decide};
 
     ghost decides = { lists_decide T.decides };
+}
+
+impl ExactEq for Kind {
+    ghost use Rattle.std.proofs.Common.{rules};
+
+    ghost decides = { Prim.search rules };
+}
+
+impl ExactEq for Decimal {
+    ghost use Rattle.std.proofs.Common.{rules};
+    ghost use Rattle.value_dm.specs.Sameness.{decimal_same};
+
+    ghost decides = { Prim.search (rules, decimal_same) };
+}
+
+impl ExactEq for Date {
+    ghost use Rattle.std.proofs.Common.{rules};
+    ghost use Rattle.value_dm.specs.Sameness.{date_same};
+
+    ghost decides = { Prim.search (rules, date_same) };
+}
+
+impl ExactEq for Time {
+    ghost use Rattle.std.proofs.Common.{rules};
+    ghost use Rattle.value_dm.specs.Sameness.{time_same};
+
+    ghost decides = { Prim.search (rules, time_same) };
+}
+
+impl ExactEq for DateTime {
+    ghost use Rattle.std.proofs.Common.{rules};
+    ghost use Rattle.value_dm.specs.Sameness.{date_same, date_times_decide, time_same};
+
+    ghost decides = { date_times_decide {f = ⟦<Date as PartialEq>⟧.eq} {g = ⟦<Time as PartialEq>⟧.eq}
+        (Prim.search (rules, date_same)) (Prim.search (rules, time_same)) };
+}
+
+impl<T: ExactEq> ExactEq for Option<T> {
+    ghost use Rattle.std.proofs.Common.{rules};
+
+    ghost decides = { Prim.search (rules, T.decides) };
 }
 
 /// Whether two values are equal.
