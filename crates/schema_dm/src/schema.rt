@@ -4,9 +4,9 @@ use crate::build::tables_of;
 use crate::relation::sides;
 use crate::verdict::first_error;
 use crate::{Binary, Drafts, SchemaFault, Table};
-use std::alloc::Global;
+use std::alloc::{AllocError, Global};
 use std::marker::Model;
-use value_dm::Sequence;
+use value_dm::{Sequence, TryCopy};
 
 /// The tables of a database, which contracts see as a list.
 ///
@@ -76,5 +76,13 @@ impl Schema {
         ensures valid { IsSchema self.now }
     {
         self.tables.as_slice()
+    }
+}
+
+impl TryCopy for Schema {
+    fn copy(&self, alloc: Global) -> Result<Schema, AllocError> {
+        Ok(Schema {
+            tables: self.tables.copy(alloc)?,
+        })
     }
 }

@@ -2,7 +2,9 @@ ghost use Rattle.std.specs.Prelude.{◌≡◌, ◌↔◌, length, IsSome, IfSome
 
 use crate::order::are_shape;
 use crate::{ShapeTable, ShapeTables};
+use std::alloc::{AllocError, Global};
 use std::marker::Model;
+use value_dm::TryCopy;
 
 /// Tables without keys, which contracts see as a list. Tables and the columns of each stand in
 /// strictly rising order of their names' bytes.
@@ -53,5 +55,13 @@ impl Shape {
         ensures shape { IsShape self.now }
     {
         self.tables.as_slice()
+    }
+}
+
+impl TryCopy for Shape {
+    fn copy(&self, alloc: Global) -> Result<Shape, AllocError> {
+        Ok(Shape {
+            tables: self.tables.copy(alloc)?,
+        })
     }
 }
