@@ -1,3 +1,4 @@
+pub mod AnyLemmas
 pub mod ElementsLemmas
 pub mod ElementsTests
 pub mod MembershipLemmas

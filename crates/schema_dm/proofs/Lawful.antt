@@ -24,20 +24,11 @@ use Rattle.schema_dm.specs.declared.refusal.SchemaCause.TheVariants.{BadName, No
 use Rattle.schema_dm.specs.Naming.{Name, same_name, IsBadName, Declares, column_names, column_place, kind_at}
 use Rattle.schema_dm.specs.Drafts.{AnyUniqueList, AnyOwnList, DeclaresTable, table_place, target_of, referenced_columns, AreNoKey, ReferencesNoKey, kind_of_name, AnyKindsDiffer, KindsOfKeyDiffer, ReferencesOtherKinds, ClashesWith, IsSound, AreLawful}
 use Rattle.schema_dm.specs.Schemas.{places_of, places_if_given, target_places, foreign_key_of, table_of, schema_of, no_table, table_at, AreColumns, IsUniqueKey, IsForeignKey, IsTable, IsSchema}
-use Rattle.schema_dm.proofs.Lookups.{Any-cons, Any-head, Any-tail, Any-nil, key_IsIn, IsIn_key}
+use Rattle.members_dm.proofs.AnyLemmas.{Any-cons, Any-head, Any-tail, Any-nil, key_IsIn, IsIn_key, any_from_item, item_from_any}
 use Rattle.schema_dm.proofs.Reordered.{reordered_stable}
 use Rattle.schema_dm.proofs.SameKinds.{same_kinds}
 
--- ---- `Any` by items
-
-some_item : {X : Type 0} (P : X → Type 0) (xs : List X) → Any P xs → (x : X) × IsIn x xs × P x
-some_item P [] h = absurd (Any-nil P h)
-some_item P (x ∷ xs) h = elim (Any-cons P x xs h) [ inl p ↦ (x, inl refl, p) | inr k ↦ (let r = some_item P xs k in (r.0, inr r.1, r.2)) ]
-
-any_from_item : {X : Type 0} (P : X → Type 0) (x : X) (xs : List X) → IsIn x xs → P x → Any P xs
-any_from_item P x [] h p = absurd h
-any_from_item P x (y ∷ ys) (inl is) p = Any-head P y ys (subst P (sym is) p)
-any_from_item P x (y ∷ ys) (inr h) p = Any-tail P y ys (any_from_item P x ys h p)
+-- ---- lists
 
 map_map : {X Y Z : Type 0} (f : Y → Z) (g : X → Y) (xs : List X) → map f (map g xs) ≡ map (λ x. f (g x)) xs
 map_map f g [] = refl
@@ -213,10 +204,10 @@ module _ (drafts : List TableDraft) (lawful : AreLawful drafts) (place : ℕ) (d
   unique_found : (target : TableDraft) → target_of drafts key ≡ Some target → (names : List Name) → AnyUniqueList (IsPermutation names) target
       → (list : List Name) × (IsIn list target.primaries ⊎ IsIn list target.uniques) × IsPermutation names list × IsUniqueKey (table_of drafts target) (places_of target.columns list)
   unique_found target e names (inl h) =
-      let r = some_item (IsPermutation names) target.primaries h in
+      let r = item_from_any (IsPermutation names) target.primaries h in
       (r.0, inl r.1, r.2, inl (ap (option_map (places_of target.columns)) (the_only r.0 target.primaries (target_sound target e TwoPrimaryKeys) r.1)))
   unique_found target e names (inr h) =
-      let r = some_item (IsPermutation names) target.uniques h in
+      let r = item_from_any (IsPermutation names) target.uniques h in
       (r.0, inr r.1, r.2, inr (map-IsIn (places_of target.columns) r.0 target.uniques r.1))
 
   keyed : (target : TableDraft) → target_of drafts key ≡ Some target → (names : Option (List Name)) → referenced_columns key target ≡ names

@@ -1,46 +1,12 @@
 -- Loops that look for a key or for two items of one key.
-use Rattle.std.proofs.Common.{◌≡◌, ◌⊎◌, ℕ, zero, suc, ◌+◌, ◌-◌, ◌<◌, ◌≤◌, Bool, true, false, cond, not, List, [], ◌∷◌, map, length, take, drop, get_or, refl, sym, ap, ◌∙◌, subst, inl, inr, arith, Any}
+use Rattle.std.proofs.Common.{◌≡◌, ℕ, zero, suc, ◌+◌, ◌-◌, ◌<◌, ◌≤◌, Bool, true, false, cond, not, List, [], ◌∷◌, map, length, take, drop, get_or, refl, sym, ap, ◌∙◌, subst, inl, inr, arith, Any}
 use Rattle.std.specs.Option.{unwrap_or}
 use Rattle.std.specs.List.{position, position_or_len}
 use Rattle.std.proofs.lemmas.List.{drop_more, take_rest}
 use Rattle.std.proofs.lemmas.Bool.{cases_lt, lt-ltb, le-ltb}
 use Rattle.members_dm.specs.Membership.{IsIn}
-use Rattle.members_dm.specs.Elements.{HasSome, Repeats}
-
--- an item with the property, by `Any` and by `IsIn`
-pub Any-cons : {X : Type 0} (P : X → Type 0) (x : X) (xs : List X) → Any P (x ∷ xs) → P x ⊎ Any P xs
-Any-cons P x xs (k, y, below, is, holds) = at k below is
-  where
-    at : (k : ℕ) → k < length (x ∷ xs) → get_or (x ∷ xs) k y ≡ y → P x ⊎ Any P xs
-    at zero below is = inl (subst P (sym is) holds)
-    at (suc k) below is = inr (k, y, omega arith, is, holds)
-
-pub Any-head : {X : Type 0} (P : X → Type 0) (x : X) (xs : List X) → P x → Any P (x ∷ xs)
-Any-head P x xs holds = (0, x, omega arith, refl, holds)
-
-pub Any-tail : {X : Type 0} (P : X → Type 0) (x : X) (xs : List X) → Any P xs → Any P (x ∷ xs)
-Any-tail P x xs (k, y, below, is, holds) = (suc k, y, omega arith, is, holds)
-
-pub Any-nil : {X : Type 0} (P : X → Type 0) → ¬ Any P []
-Any-nil P (k, y, below, is, holds) = omega arith
-
-pub any_from_some : {X : Type 0} (P : X → Type 0) (xs : List X) → HasSome P xs → Any P xs
-any_from_some P [] h = absurd h
-any_from_some P (x ∷ xs) (inl p) = Any-head P x xs p
-any_from_some P (x ∷ xs) (inr h) = Any-tail P x xs (any_from_some P xs h)
-
-pub some_from_any : {X : Type 0} (P : X → Type 0) (xs : List X) → Any P xs → HasSome P xs
-some_from_any P [] h = Any-nil P h
-some_from_any P (x ∷ xs) h = elim (Any-cons P x xs h) [ inl p ↦ inl p | inr k ↦ inr (some_from_any P xs k) ]
-
-pub key_IsIn : {X Y : Type 0} (f : X → Y) (y : Y) (xs : List X) → Any (λ x. f x ≡ y) xs → IsIn y (map f xs)
-key_IsIn f y [] h = Any-nil (λ x. f x ≡ y) h
-key_IsIn f y (x ∷ xs) h = elim (Any-cons (λ z. f z ≡ y) x xs h) [ inl is ↦ inl is | inr k ↦ inr (key_IsIn f y xs k) ]
-
-pub IsIn_key : {X Y : Type 0} (f : X → Y) (y : Y) (xs : List X) → IsIn y (map f xs) → Any (λ x. f x ≡ y) xs
-IsIn_key f y [] h = absurd h
-IsIn_key f y (x ∷ xs) (inl is) = Any-head (λ z. f z ≡ y) x xs is
-IsIn_key f y (x ∷ xs) (inr h) = Any-tail (λ z. f z ≡ y) x xs (IsIn_key f y xs h)
+use Rattle.members_dm.proofs.AnyLemmas.{key_IsIn, IsIn_key}
+use Rattle.members_dm.specs.Elements.{Repeats}
 
 module _ {X Y : Type 0} (f : X → Y) where
   repeats_in_rest : (xs : List X) (i : ℕ) → Repeats (map f (drop i xs)) → Repeats (map f xs)

@@ -16,7 +16,7 @@ use Rattle.std.specs.Cmp.Lexicographic.{bytes_decides}
 use Rattle.schema_dm.specs.declared.draft.TableDraft.{TableDraft}
 use Rattle.schema_dm.specs.Naming.{Name, same_name}
 use Rattle.schema_dm.specs.Drafts.{AnyUniqueList}
-use Rattle.schema_dm.proofs.Lookups.{any_from_some, some_from_any}
+use Rattle.members_dm.proofs.AnyLemmas.{any_from_some, some_from_any}
 use Rattle.members_dm.proofs.ElementsLemmas.{split_at_item, index_of_item}
 
 module _ {X : Type 0} (same : X → X → Bool) (decides : (x y : X) → Decides (same x y) (x ≡ y)) where

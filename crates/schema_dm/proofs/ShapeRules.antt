@@ -1,26 +1,13 @@
 -- The rule of a shape, put together from its tests.
-use Rattle.std.proofs.Common.{◌≡◌, ◌↔◌, ◌∙◌, ℕ, zero, suc, ◌<◌, ◌≤◌, Bool, true, false, List, [], ◌∷◌, map, length, get_or, Some, refl, sym, ap, subst, All, arith}
-use Rattle.std.specs.Prelude.{◌==◌, slice_get}
+use Rattle.std.proofs.Common.{◌≡◌, ◌↔◌, ◌∙◌, ℕ, zero, suc, ◌<◌, ◌≤◌, Bool, true, false, List, map, length, refl, sym, ap, subst, All, arith}
+use Rattle.std.specs.Prelude.{◌==◌}
 use Rattle.std.proofs.lemmas.Bool.{eqb-false}
 use Rattle.members_dm.specs.Membership.{IsIn, IsRising}
-use Rattle.members_dm.proofs.ElementsLemmas.{index_of_item, item_within}
+use Rattle.members_dm.proofs.AnyLemmas.{item_from_all, all_from_items}
 use Rattle.schema_dm.specs.declared.draft.Column.{Column}
 use Rattle.schema_dm.specs.declared.table.ShapeTable.{ShapeTable}
 use Rattle.schema_dm.specs.Naming.{IsBadName}
 use Rattle.schema_dm.specs.Shapes.{IsBefore, IsShapeColumn, IsShapeTable, IsShape}
-
-read_at : {X : Type 0} (xs : List X) (k : ℕ) (x : X) → slice_get xs k ≡ Some x → get_or xs k x ≡ x
-read_at [] k x e = refl
-read_at (z ∷ zs) zero x e = (let f : Some z ≡ Some x = e in cc)
-read_at (z ∷ zs) (suc k) x e = read_at zs k x e
-
-pub item_from_all : {X : Type 0} (P : X → Type 0) (xs : List X) → All P xs → (x : X) → IsIn x xs → P x
-item_from_all P xs all x h =
-    let at : (k : ℕ) × (k < length xs) × (slice_get xs k ≡ Some x) = index_of_item x xs h in
-    subst P (read_at xs at.0 x at.2) (all at.0 x at.1)
-
-pub all_from_items : {X : Type 0} (P : X → Type 0) (xs : List X) → ((x : X) → IsIn x xs → P x) → All P xs
-all_from_items P xs each k d below = each (get_or xs k d) (item_within xs k d below)
 
 positive : (n : ℕ) → ¬ (n ≡ 0) → 0 < n
 positive zero h = absurd (h refl)

@@ -79,8 +79,8 @@ abbrev pub ReferencesOtherKinds : List Column → ForeignDraft → Option TableD
 ReferencesOtherKinds columns key None = ⊥
 ReferencesOtherKinds columns key (Some target) = KindsOfKeyDiffer columns key.columns target.columns (referenced_columns key target)
 
--- W3C, A Direct Mapping of Relational Data to RDF, 2.2: the reference property of the column `x` alone is named
--- `ref-x`, as is the literal property of a column `ref-x`
+-- The reference property of the column `x` alone has the name `ref-x`, which the literal property of a column `ref-x`
+-- has too (W3C, A Direct Mapping of Relational Data to RDF: reference property IRI, literal property IRI).
 abbrev pub ClashesWith : List Column → List Name → Type 0
 ClashesWith columns (x ∷ []) = Declares columns (codes "ref-" ++ x)
 ClashesWith columns _ = ⊥

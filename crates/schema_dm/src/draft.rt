@@ -73,3 +73,22 @@ impl TryCopy for TableDraft {
         })
     }
 }
+
+impl ExactEq for ForeignDraft {
+    ghost use Rattle.value_dm.specs.Equality.{lists_decide, numbers_decide};
+    ghost use Rattle.schema_dm.specs.Sameness.{foreign_drafts_decide, options_decide};
+
+    ghost decides = { foreign_drafts_decide (lists_decide numbers_decide) numbers_decide (options_decide (lists_decide numbers_decide)) };
+}
+
+impl ExactEq for TableDraft {
+    ghost use Rattle.std.proofs.Common.{rules};
+    ghost use Rattle.std.proofs.lemmas.Grind.{common_steps};
+    ghost use Rattle.value_dm.specs.Equality.{lists_decide, numbers_decide};
+    ghost use Rattle.schema_dm.specs.Sameness.{foreign_drafts_decide, options_decide, table_drafts_decide};
+
+    ghost decides = { table_drafts_decide numbers_decide
+        (lists_decide {test = ⟦<Column as PartialEq>⟧.eq} (Prim.search (rules, common_steps)))
+        (lists_decide (lists_decide numbers_decide))
+        (lists_decide (foreign_drafts_decide (lists_decide numbers_decide) numbers_decide (options_decide (lists_decide numbers_decide)))) };
+}

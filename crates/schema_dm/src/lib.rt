@@ -45,3 +45,6 @@ pub type ForeignKeys = Sequence<ForeignKey>;
 
 /// Tables without keys.
 pub type ShapeTables = Sequence<ShapeTable>;
+
+#[cfg(test)]
+mod tests;

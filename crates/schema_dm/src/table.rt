@@ -1,4 +1,4 @@
-use crate::{Columns, ForeignKeys, PlaceLists, Places};
+use crate::{Column, Columns, ForeignKeys, PlaceLists, Places};
 use std::alloc::{AllocError, Global};
 use value_dm::{ExactEq, Text, TryCopy};
 
@@ -85,4 +85,27 @@ impl ExactEq for Binary {
     ghost use Rattle.std.proofs.lemmas.Grind.{common_steps};
 
     ghost decides = { Prim.search (rules, common_steps) };
+}
+
+impl ExactEq for Table {
+    ghost use Rattle.std.proofs.Common.{rules};
+    ghost use Rattle.std.proofs.lemmas.Grind.{common_steps};
+    ghost use Rattle.value_dm.specs.Equality.{lists_decide, numbers_decide};
+    ghost use Rattle.schema_dm.specs.Sameness.{options_decide, tables_decide};
+
+    ghost decides = { tables_decide numbers_decide
+        (lists_decide {test = ⟦<Column as PartialEq>⟧.eq} (Prim.search (rules, common_steps)))
+        (options_decide numbers_decide)
+        (lists_decide numbers_decide)
+        (lists_decide {test = ⟦<ForeignKey as PartialEq>⟧.eq} (Prim.search (rules, common_steps))) };
+}
+
+impl ExactEq for ShapeTable {
+    ghost use Rattle.std.proofs.Common.{rules};
+    ghost use Rattle.std.proofs.lemmas.Grind.{common_steps};
+    ghost use Rattle.value_dm.specs.Equality.{lists_decide, numbers_decide};
+    ghost use Rattle.schema_dm.specs.Sameness.{shape_tables_decide};
+
+    ghost decides = { shape_tables_decide numbers_decide
+        (lists_decide {test = ⟦<Column as PartialEq>⟧.eq} (Prim.search (rules, common_steps))) };
 }
