@@ -17,12 +17,14 @@ pub fn is_bad_name(name: &Text) -> bool
     }
 }
 
+/// Whether a column has a bad name.
 pub fn some_bad_name(columns: &[Column]) -> bool
     ensures { IsTrue result ↔ Any (λ column. IsBadName column.name) columns.now }
 {
     columns.iter().any(|column| is_bad_name(&column.name))
 }
 
+/// Whether `BadName` holds of the draft.
 pub fn has_bad_name(draft: &TableDraft) -> bool
     ensures { IsTrue result ↔ (IsBadName draft.now.name ⊎ Any (λ column. IsBadName column.name) draft.now.columns) }
 {
@@ -35,6 +37,7 @@ fn some_empty<T: KeyedBy<Names>>(items: &[T]) -> bool
     items.iter().any(|item| item.key().len() == 0)
 }
 
+/// Whether `NoColumn` holds of the draft.
 pub fn has_no_column(draft: &TableDraft) -> bool
     ensures { IsTrue result ↔ ((length draft.now.columns ≡ 0) ⊎ AnyOwnList (λ names. length names ≡ 0) draft.now) }
 {
@@ -56,6 +59,7 @@ fn names_repeat(names: &Names) -> bool
     repeats::<Text, Text>(names.as_slice())
 }
 
+/// Whether `DuplicateColumn` holds of the draft.
 pub fn has_duplicate_column(draft: &TableDraft) -> bool
     ensures { IsTrue result ↔ (Repeats (column_names draft.now.columns) ⊎ AnyOwnList Repeats draft.now) }
 {
@@ -83,6 +87,7 @@ fn some_unknown<T: KeyedBy<Names>>(columns: &Columns, items: &[T]) -> bool
     items.iter().any(|item| names_unknown(columns, item.key()))
 }
 
+/// Whether `UnknownColumn` holds of the draft.
 pub fn has_unknown_column(draft: &TableDraft) -> bool
     ensures { IsTrue result ↔ AnyOwnList (Any (λ name. ¬ Declares draft.now.columns name)) draft.now }
 {
@@ -91,6 +96,7 @@ pub fn has_unknown_column(draft: &TableDraft) -> bool
         || some_unknown(&draft.columns, draft.foreign.as_slice())
 }
 
+/// Whether `UnknownTable` holds of the draft.
 pub fn has_unknown_table(drafts: &[TableDraft], draft: &TableDraft) -> bool
     ensures { IsTrue result ↔ Any (λ key. ¬ DeclaresTable drafts.now key.target) draft.now.foreign }
 {
@@ -101,6 +107,7 @@ pub fn has_unknown_table(drafts: &[TableDraft], draft: &TableDraft) -> bool
         .any(|key| !contains(drafts, &key.target))
 }
 
+/// Whether `SameColumnsTwice` holds of the draft.
 pub fn has_columns_twice(draft: &TableDraft) -> bool
     ensures { IsTrue result ↔ Repeats (map (λ key. key.columns) draft.now.foreign) }
 {
@@ -142,6 +149,7 @@ fn clashes(columns: &[Column], names: &[Text]) -> bool
     }
 }
 
+/// Whether `NameClash` holds of the draft.
 pub fn has_clash(draft: &TableDraft) -> bool
     ensures { IsTrue result ↔ Any (λ key. ClashesWith draft.now.columns key.columns) draft.now.foreign }
 {

@@ -93,6 +93,7 @@ fn references_no_key(drafts: &[TableDraft], key: &ForeignDraft) -> bool
     }
 }
 
+/// Whether `NotAKey` holds of the draft.
 pub fn has_no_key(drafts: &[TableDraft], draft: &TableDraft) -> bool
     ensures { IsTrue result ↔ Any (λ key. ReferencesNoKey key (target_of drafts.now key)) draft.now.foreign }
 {
@@ -160,6 +161,7 @@ fn references_other_kinds(drafts: &[TableDraft], draft: &TableDraft, key: &Forei
     }
 }
 
+/// Whether `KindMismatch` holds of the draft.
 pub fn has_kind_mismatch(drafts: &[TableDraft], draft: &TableDraft) -> bool
     ensures { IsTrue result ↔ Any (λ key. ReferencesOtherKinds draft.now.columns key (target_of drafts.now key)) draft.now.foreign }
 {
