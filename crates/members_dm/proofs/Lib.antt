@@ -1,2 +1,5 @@
+pub mod AnyLemmas
+pub mod ElementsLemmas
+pub mod ElementsTests
 pub mod MembershipLemmas
 pub mod PlacesLemmas

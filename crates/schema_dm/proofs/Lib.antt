@@ -1,0 +1,12 @@
+pub mod FirstTable
+pub mod KindLoops
+pub mod Lawful
+pub mod Lookups
+pub mod OneRelation
+pub mod ReferenceNames
+pub mod Refusals
+pub mod Reordered
+pub mod RisingNames
+pub mod SameKinds
+pub mod ShapeRules
+pub mod Sides

@@ -1,0 +1,6 @@
+pub mod Drafts
+pub mod Naming
+pub mod Relations
+pub mod Sameness
+pub mod Schemas
+pub mod Shapes

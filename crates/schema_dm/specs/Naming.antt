@@ -1,0 +1,38 @@
+-- Names of tables and columns, and the places at which names stand.
+use Rattle.std.specs.Prelude.{◌≡◌, ◌≢◌, ℕ, List, [], ◌∷◌, Bool, Option, map, nat_eq, slice_get}
+use Rattle.std.specs.Option.{option_map}
+use Rattle.std.specs.List.{Any, count_by, position_or_len}
+use Rattle.std.specs.Cmp.Lexicographic.{pointwise}
+use Rattle.value_dm.specs.declared.kind.Kind.{Kind}
+use Rattle.schema_dm.specs.declared.draft.Column.{Column}
+
+-- an identifier by its characters (ISO/IEC 9075-2, 5.4); identifiers are compared as they are written
+abbrev pub Name : Type 0
+Name = List ℕ
+
+abbrev pub same_name : Name → Name → Bool
+same_name x y = pointwise nat_eq x y
+
+-- a name is bad that is empty, or begins with the byte order mark U+FEFF
+abbrev pub IsBadName : Name → Type 0
+IsBadName [] = Unit {0}
+IsBadName (c ∷ cs) = c ≡ 65279
+
+abbrev pub column_names : List Column → List Name
+column_names columns = map (λ column. column.name) columns
+
+-- a column of the name is declared
+abbrev pub Declares : List Column → Name → Type 0
+Declares columns name = Any (λ column. column.name ≡ name) columns
+
+-- the place of the first column of the name, or the number of columns where there is none
+abbrev pub column_place : List Column → Name → ℕ
+column_place columns name = position_or_len (λ column. same_name column.name name) columns
+
+-- the kind of the column at the place
+abbrev pub kind_at : List Column → ℕ → Option Kind
+kind_at columns place = option_map (λ column. column.kind) (slice_get columns place)
+
+-- the name stands more often in one of the two lists than in the other
+unfoldable pub OccursOtherwise : List Name → List Name → Name → Type 0
+OccursOtherwise names others name = count_by (λ other. same_name other name) names ≢ count_by (λ other. same_name other name) others
