@@ -1,12 +1,12 @@
 -- Readers of alternatives, of options and repeats, and of parts that look further than one token.
-use Rattle.std.proofs.Common.{◌≡◌, ℕ, zero, suc, ◌≤◌, ◌<◌, Bool, true, false, List, [], ◌∷◌, length, Option, Some, None, Ok, Err, refl, sym, ap, subst, arith, inl, inr}
+use Rattle.std.proofs.Common.{◌≡◌, ℕ, zero, suc, ◌≤◌, ◌<◌, Bool, true, false, List, [], ◌∷◌, length, Option, Some, None, Ok, Err, refl, sym, ap, subst, ◌∙◌, arith, inl, inr}
 use Rattle.std.specs.Prelude.{is_some, ◌||◌}
-use Rattle.grammar_dm.specs.Part.{Part, Repeats, Spells, Begins, Marks, separated_by}
+use Rattle.grammar_dm.specs.Part.{Part, Repeats, Spells, Begins, Marks, separated_by, skip}
 use Rattle.grammar_dm.specs.Part.Part.{token, give, then, or, optional, repeated}
 use Rattle.grammar_dm.specs.Part.Repeats.{no_repeat, one_more}
-use Rattle.grammar_dm.specs.Reading.{Answer, ◌>>=◌, token_at, took, starts, at_most, many_at, optional_at, behind_at, separated_at}
+use Rattle.grammar_dm.specs.Reading.{Answer, ◌>>=◌, token_at, took, starts, at_most, many_at, optional_at, skip_optional_at, skip_many_at, behind_at, separated_at}
 use Rattle.grammar_dm.proofs.Fronts.{whole_begins, nothing_begins}
-use Rattle.grammar_dm.proofs.Laws.{rest_of, Goes, Stands, Reads, Within, Apart, Blocked, no, short_of, give_reads, give_apart, token_reads, token_blocked, then_reads, then_give, then_apart, then_blocked, token_then, token_takes, token_then_blocked}
+use Rattle.grammar_dm.proofs.Laws.{blocked_apart, rest_of, Goes, Stands, Reads, Within, Apart, Blocked, no, short_of, give_reads, give_apart, token_reads, token_blocked, then_reads, then_give, then_apart, then_blocked, token_then, token_takes, token_then_blocked}
 
 -- ---- tests of a first token
 
@@ -236,6 +236,51 @@ optional_apart {T} {V} a more ts h g =
     within_along (a_or_nothing a) (optional a) more ts ts (optional_same a ts)
     (or_apart _ _ more ts ts (then_blocked a (λ x. give (Some x)) more ts h) (give_apart {V = Option V} None more ts g))
 
+-- [ a ], whose value has no effect, is a, or nothing
+skip_same : {T : Type 0} (a : Part T (Unit {0})) (ts : List T) → Same (or a (give tt)) (skip (optional a)) ts
+skip_same {T} a ts = record {
+  to = record {
+    spells = λ r v. elim [
+      | inl h ↦ (r, Some v, inl (v, h, refl), (refl, refl))
+      | inr h ↦ (ts, None, inr (refl, refl), h)
+    ];
+    begins = λ r. elim [
+      | inl h ↦ inl h
+      | inr e ↦ inr (ts, None, inr (refl, refl), e)
+    ];
+    marks = λ r. elim [
+      | inl h ↦ inl h
+      | inr h ↦ absurd h
+    ];
+  };
+  from = record {
+    spells = λ r v h. elim h.2 [
+      | inl s ↦ inl (subst (λ (us : List T). Spells a ts us s.0) h.3.0 s.1)
+      | inr e ↦ inr (e.0 ∙ h.3.0, refl)
+    ];
+    begins = λ r. elim [
+      | inl b ↦ inl b
+      | inr h ↦ elim h.2 [
+        | inl s ↦ inl (subst (λ (us : List T). Begins a ts us) h.3 (whole_begins a ts h.0 s.0 s.1))
+        | inr e ↦ inr (e.0 ∙ h.3)
+      ]
+    ];
+    marks = λ r. elim [ inl m ↦ inl m | inr h ↦ absurd h.3 ];
+  };
+}
+
+pub skip_optional_reads : {T : Type 0} (a : Part T (Unit {0})) (test more : T → Bool) (item : List T → Answer T (Unit {0})) (ts : List T)
+    → (starts test ts ≡ true → Reads a more ts (item ts) × Goes more ts) → (starts test ts ≡ false → Blocked a ts)
+    → Reads (skip (optional a)) more ts (skip_optional_at test item ts)
+skip_optional_reads a test more item ts reads blocked =
+    reads_along (or a (give tt)) (skip (optional a)) more ts _ (skip_same a ts)
+    (or_by test a (give tt) more ts _ _
+    (λ e. ((reads e).0, give_apart tt more ts (reads e).1))
+    (λ e. (blocked_apart a more ts (blocked e), give_reads tt more ts)))
+
+pub skip_optional_apart : {T : Type 0} (a : Part T (Unit {0})) (more : T → Bool) (ts : List T) → Blocked a ts → Goes more ts → Apart (skip (optional a)) more ts
+skip_optional_apart a more ts h g = within_along (or a (give tt)) (skip (optional a)) more ts ts (skip_same a ts) (or_apart _ _ more ts ts (blocked_apart a more ts h) (give_apart tt more ts g))
+
 -- ---- repeats
 
 -- { a } is a { a }, or nothing
@@ -332,6 +377,13 @@ module _ {T V : Type 0} (a : Part T V) (test more_a more : T → Bool) (item : L
 
   pub repeated_reads : (ts : List T) → Reads (repeated a) more ts (many_at test item ts)
   repeated_reads ts = at_most_reads (length ts) ts (omega arith)
+
+-- repeats whose values have no effect
+pub skip_repeated_reads : {T V : Type 0} (a : Part T V) (test more_a more : T → Bool) (item : List T → Answer T V) → Repeatable a test more_a more item → (ts : List T) → Reads (skip (repeated a)) more ts (skip_many_at test item ts)
+skip_repeated_reads a test more_a more item ok ts = then_give (repeated a) (λ _. tt) more ts _ (repeated_reads a test more_a more item ok ts)
+
+pub skip_repeated_apart : {T V : Type 0} (a : Part T V) (more : T → Bool) (ts : List T) → Blocked a ts → Goes more ts → Apart (skip (repeated a)) more ts
+skip_repeated_apart {T} a more ts h g = then_apart (repeated a) (λ _. give tt) more more ts (repeated_apart a more ts h g) (λ vs k. give_apart tt more ts k)
 
 -- ---- parts behind a separator
 

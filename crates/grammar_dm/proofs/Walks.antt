@@ -4,7 +4,7 @@ use Rattle.std.proofs.Common.{◌≡◌, ℕ, zero, suc, ◌≤◌, ◌<◌, Boo
 use Rattle.std.proofs.lemmas.List.{append-nil}
 use Rattle.grammar_dm.specs.Part.{Part}
 use Rattle.grammar_dm.specs.Verdict.{Fault, Judges}
-use Rattle.grammar_dm.specs.Reading.{Answer, ◌>>=◌, starts, at_most, many_at, separated_at, through, all_of}
+use Rattle.grammar_dm.specs.Reading.{Answer, ◌>>=◌, starts, at_most, many_at, separated_at, through, skip_many_at, all_of}
 use Rattle.grammar_dm.specs.declared.read_error.ReadError.{ReadError}
 use Rattle.grammar_dm.specs.declared.read_error.ReadError.TheVariants.{Memory, At}
 use Rattle.grammar_dm.specs.Exits.{Fails, Gives, IsJudged}
@@ -144,6 +144,33 @@ walk_separated {T} {V} test item behind tokens rest v none new strict read empty
       ap (λ (front : List V). through (λ xs. front ++ xs) (many_at test behind rest)) (made ∙ ap (λ us. us ++ v ∷ []) empty)
       ∙ sym (ap (λ (r : Answer T V). r >>= λ x. through (λ xs. x.0 ∷ xs) (many_at test behind x.1)) read);
 }
+
+-- ---- repeats whose values have no effect
+
+pub record SkipWalk {T V : Type 0} (test : T → Bool) (item : List T → Answer T V) (rest : List T) (total : Answer T (Unit {0})) : Type 0 where
+  pub walk : Walk test item (λ _. tt) [] rest total
+
+module _ {T V : Type 0} (test : T → Bool) (item : List T → Answer T V) where
+  pub skip_on : (rest after : List T) (v : V) (total : Answer T (Unit {0}))
+      → SkipWalk test item rest total → starts test rest ≡ true → item rest ≡ Ok (v, after) → SkipWalk test item after total
+  skip_on rest after v total w s e =
+      let next = walk_on test item (λ _. tt) [] (v ∷ []) rest after v total w.walk s e refl in
+      record { walk = record { strict = next.strict; so_far = next.so_far } }
+
+  pub skip_less : (rest after : List T) (v : V) (total : Answer T (Unit {0}))
+      → SkipWalk test item rest total → starts test rest ≡ true → item rest ≡ Ok (v, after) → length after < length rest
+  skip_less rest after v total w s e = walk_less test item (λ _. tt) [] rest after v total w.walk s e
+
+  pub skip_stops : (rest : List T) (total : Answer T (Unit {0})) → SkipWalk test item rest total → starts test rest ≡ false → total ≡ Ok (tt, rest)
+  skip_stops rest total w s = walk_stops test item (λ _. tt) [] rest total w.walk s
+
+  pub skip_fails : (rest : List T) (total : Answer T (Unit {0})) (e : ReadError T) → SkipWalk test item rest total → starts test rest ≡ true → Fails e (item rest) → Fails e total
+  skip_fails rest total e w s h = walk_fails test item (λ _. tt) [] rest total e w.walk s h
+
+pub ruleset skips = (skip_on, skip_less, skip_stops, skip_fails)
+
+pub skip_begins : {T V : Type 0} (test : T → Bool) (item : List T → Answer T V) (rest : List T) → IsStrict test item → SkipWalk test item rest (skip_many_at test item rest)
+skip_begins test item rest strict = record { walk = record { strict = strict; so_far = refl } }
 
 -- ---- all tokens
 

@@ -66,6 +66,10 @@ Marks (marked a) ts rest = (ts ≡ rest) ⊎ Marks a ts rest
 abbrev pub never : {T V : Type 0} → Part T V
 never = token (λ t. None)
 
+-- a part whose value has no effect
+abbrev pub skip : {T V : Type 0} → Part T V → Part T (Unit {0})
+skip a = then a (λ _. give tt)
+
 -- { part separator } part
 abbrev pub ended_by : {T A B : Type 0} → Part T A → Part T B → Part T (List A)
 ended_by a sep = then (repeated (then a (λ x. then sep (λ _. give x)))) (λ xs. then a (λ x. give (xs ++ x ∷ [])))

@@ -51,6 +51,17 @@ optional_at test item ts = elim (starts test ts) [
 abbrev pub through : {T V W : Type 0} → (V → W) → Answer T V → Answer T W
 through f read = read >>= λ x. Ok (f x.0, x.1)
 
+-- a part whose value has no effect, where the first token passes the test
+abbrev pub skip_optional_at : {T : Type 0} → (T → Bool) → (List T → Answer T (Unit {0})) → List T → Answer T (Unit {0})
+skip_optional_at test item ts = elim (starts test ts) [
+  | true ↦ item ts
+  | false ↦ Ok (tt, ts)
+]
+
+-- all repeats, whose values have no effect
+abbrev pub skip_many_at : {T V : Type 0} → (T → Bool) → (List T → Answer T V) → List T → Answer T (Unit {0})
+skip_many_at test item ts = through (λ _. tt) (many_at test item ts)
+
 -- a separator and a part
 abbrev pub behind_at : {T V B : Type 0} → (T → Option B) → (List T → Answer T V) → List T → Answer T V
 behind_at sep item ts = token_at sep ts >>= λ c. item c.1
