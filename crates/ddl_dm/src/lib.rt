@@ -1,0 +1,12 @@
+//! SQL's CREATE TABLE and ALTER TABLE: tokens, statements, and the first fault of a text.
+#![tactic(auto)]
+
+mod reader;
+mod syntax;
+mod token;
+
+pub use syntax::{
+    AlterTable, Column, ColumnType, Constraint, CreateTable, ForeignKey, Item, Key, Statement,
+    Target,
+};
+pub use token::{Keyword, Placed, Sign, Token, TypeWord};
