@@ -38,6 +38,9 @@ number_at = token_at (λ t. number_of t.token)
 abbrev pub name_at : List Placed → Read Name
 name_at = token_at (λ t. name_of t.token)
 
+abbrev pub skip_name_at : List Placed → Read Mark
+skip_name_at ts = through (λ _. tt) (name_at ts)
+
 abbrev pub column_name_at : List Placed → Read Name
 column_name_at = token_at (λ t. column_name_of t.token)
 
@@ -52,7 +55,7 @@ is_word k t = is_some (word_of k t.token)
 
 -- ---- list
 
-abbrev pub next_name_at : List Placed → Read Name
+unfoldable pub next_name_at : List Placed → Read Name
 next_name_at = behind_at (λ t. sign_of signs.Comma t.token) name_at
 
 unfoldable pub names_at : List Placed → Read (List Name)
@@ -100,11 +103,14 @@ rule_at ts = do
 unfoldable pub rules_at : List Placed → Read Mark
 rules_at = skip_many_at (is_word keywords.On) rule_at
 
+unfoldable pub given_list_at : List Placed → Read (Option (List Name))
+given_list_at = optional_at (is_sign signs.Open) list_at
+
 unfoldable pub target_at : List Placed → Read Target
 target_at ts = do
   references ← word_at keywords.References ts
   table ← name_at references.1
-  columns ← optional_at (is_sign signs.Open) list_at table.1
+  columns ← given_list_at table.1
   rules ← rules_at columns.1
   Ok (record { table = table.0; columns = columns.0 }, rules.1)
 
@@ -143,8 +149,7 @@ key_at ts = elim (starts (is_word keywords.Primary) ts) [
 unfoldable pub constraint_name_at : List Placed → Read Mark
 constraint_name_at ts = do
   constraint ← word_at keywords.Constraint ts
-  name ← name_at constraint.1
-  Ok (tt, name.1)
+  skip_name_at constraint.1
 
 unfoldable pub after_name_at : List Placed → Read Mark
 after_name_at = skip_optional_at (is_word keywords.Constraint) constraint_name_at
@@ -274,7 +279,7 @@ item_at ts = elim (starts begins_named_key ts) [
   | false ↦ (column_at ts >>= λ column. Ok (items.Column column.0, column.1))
 ]
 
-abbrev pub next_item_at : List Placed → Read Item
+unfoldable pub next_item_at : List Placed → Read Item
 next_item_at = behind_at (λ t. sign_of signs.Comma t.token) item_at
 
 unfoldable pub items_at : List Placed → Read (List Item)
@@ -347,7 +352,7 @@ begins_statement t = is_word keywords.Create t || is_word keywords.Alter t
 unfoldable pub optional_statement_at : List Placed → Read (Option Statement)
 optional_statement_at = optional_at begins_statement statement_at
 
-abbrev pub next_statement_at : List Placed → Read (Option Statement)
+unfoldable pub next_statement_at : List Placed → Read (Option Statement)
 next_statement_at = behind_at (λ t. sign_of signs.Semicolon t.token) optional_statement_at
 
 unfoldable pub file_at : List Placed → Read (List Statement)

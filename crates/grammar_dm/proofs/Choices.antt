@@ -6,7 +6,7 @@ use Rattle.grammar_dm.specs.Part.Part.{token, give, then, or, optional, repeated
 use Rattle.grammar_dm.specs.Part.Repeats.{no_repeat, one_more}
 use Rattle.grammar_dm.specs.Reading.{Answer, ◌>>=◌, token_at, took, starts, at_most, many_at, optional_at, skip_optional_at, skip_many_at, behind_at, separated_at}
 use Rattle.grammar_dm.proofs.Fronts.{whole_begins, nothing_begins}
-use Rattle.grammar_dm.proofs.Laws.{blocked_apart, rest_of, Goes, Stands, Reads, Within, Apart, Blocked, no, short_of, give_reads, give_apart, token_reads, token_blocked, then_reads, then_give, then_apart, then_blocked, token_then, token_takes, token_then_blocked}
+use Rattle.grammar_dm.proofs.Laws.{no_goes, blocked_apart, rest_of, Goes, Stands, Reads, Within, Apart, Blocked, no, short_of, give_reads, give_apart, token_reads, token_blocked, then_reads, then_give, then_apart, then_blocked, token_then, token_takes, token_then_blocked}
 
 -- ---- tests of a first token
 
@@ -280,6 +280,32 @@ skip_optional_reads a test more item ts reads blocked =
 
 pub skip_optional_apart : {T : Type 0} (a : Part T (Unit {0})) (more : T → Bool) (ts : List T) → Blocked a ts → Goes more ts → Apart (skip (optional a)) more ts
 skip_optional_apart a more ts h g = within_along (or a (give tt)) (skip (optional a)) more ts ts (skip_same a ts) (or_apart _ _ more ts ts (blocked_apart a more ts h) (give_apart tt more ts g))
+
+option_end : {T V : Type 0} (a : Part T V) (ts mid : List T) (x : Unit {0}) → Blocked a ts → Spells (skip (optional a)) ts mid x → ts ≡ mid
+option_end a ts mid x h s = elim s.2 [
+  | inl k ↦ no_goes s.0 (h.spells s.0 k.0 k.1).1
+  | inr e ↦ e.0 ∙ s.3.0
+]
+
+-- [ a ] k, where neither is there
+pub option_then_apart : {T V A : Type 0} (a : Part T V) (k : Part T A) (more : T → Bool) (ts : List T) → Blocked a ts → Apart k more ts → Apart (then (skip (optional a)) (λ _. k)) more ts
+option_then_apart {T} a k more ts pa pk = record {
+  begins = λ r. elim [
+    | inl h ↦ elim h [
+      | inl b ↦ pa.begins r b
+      | inr s ↦ omega (arith, ap length (option_end a ts r tt pa (s.0, s.1, s.2, (s.3, refl))))
+    ]
+    | inr h ↦ pk.begins r (subst (λ us. Begins k us r) (sym (option_end a ts h.0 h.1 pa h.2)) h.3)
+  ];
+  spells = λ r v h. pk.spells r v (subst (λ us. Spells k us r v) (sym (option_end a ts h.0 h.1 pa h.2)) h.3);
+  marks = λ r. elim [
+    | inl h ↦ elim h [
+      | inl m ↦ pa.marks r m
+      | inr s ↦ s.3
+    ]
+    | inr h ↦ pk.marks r (subst (λ us. Marks k us r) (sym (option_end a ts h.0 h.1 pa h.2)) h.3)
+  ];
+}
 
 -- ---- repeats
 

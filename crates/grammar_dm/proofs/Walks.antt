@@ -145,6 +145,35 @@ walk_separated {T} {V} test item behind tokens rest v none new strict read empty
       ∙ sym (ap (λ (r : Answer T V). r >>= λ x. through (λ xs. x.0 ∷ xs) (many_at test behind x.1)) read);
 }
 
+-- ---- repeats that are kept as they are
+
+pub record ListWalk {T V : Type 0} (test : T → Bool) (item : List T → Answer T V) (front : List V) (rest : List T) (total : Answer T (List V)) : Type 0 where
+  pub walk : Walk test item (λ xs. xs) front rest total
+
+module _ {T V : Type 0} (test : T → Bool) (item : List T → Answer T V) where
+  pub list_on : (front new : List V) (rest after : List T) (v : V) (total : Answer T (List V))
+      → ListWalk test item front rest total → starts test rest ≡ true → item rest ≡ Ok (v, after) → new ≡ front ++ v ∷ [] → ListWalk test item new after total
+  list_on front new rest after v total w s e made = record { walk = walk_on test item (λ xs. xs) front new rest after v total w.walk s e made }
+
+  pub list_less : (front : List V) (rest after : List T) (v : V) (total : Answer T (List V))
+      → ListWalk test item front rest total → starts test rest ≡ true → item rest ≡ Ok (v, after) → length after < length rest
+  list_less front rest after v total w s e = walk_less test item (λ xs. xs) front rest after v total w.walk s e
+
+  pub list_stops : (front : List V) (rest : List T) (total : Answer T (List V)) → ListWalk test item front rest total → starts test rest ≡ false → total ≡ Ok (front, rest)
+  list_stops front rest total w s = walk_stops test item (λ xs. xs) front rest total w.walk s
+
+  pub list_fails : (front : List V) (rest : List T) (total : Answer T (List V)) (e : ReadError T) → ListWalk test item front rest total → starts test rest ≡ true → Fails e (item rest) → Fails e total
+  list_fails front rest total e w s h = walk_fails test item (λ xs. xs) front rest total e w.walk s h
+
+pub ruleset lists = (list_on, list_less, list_stops, list_fails)
+
+pub list_begins : {T V : Type 0} (test : T → Bool) (item : List T → Answer T V) (none : List V) (rest : List T) → IsStrict test item → none ≡ [] → ListWalk test item none rest (many_at test item rest)
+list_begins test item none rest strict e = record { walk = walk_begins test item none rest strict e }
+
+pub list_behind : {T V : Type 0} (test : T → Bool) (item behind : List T → Answer T V) (tokens rest : List T) (v : V) (none new : List V)
+    → IsStrict test behind → item tokens ≡ Ok (v, rest) → none ≡ [] → new ≡ none ++ v ∷ [] → ListWalk test behind new rest (separated_at test item behind tokens)
+list_behind test item behind tokens rest v none new strict read empty made = record { walk = walk_separated test item behind tokens rest v none new strict read empty made }
+
 -- ---- repeats whose values have no effect
 
 pub record SkipWalk {T V : Type 0} (test : T → Bool) (item : List T → Answer T V) (rest : List T) (total : Answer T (Unit {0})) : Type 0 where
