@@ -13,19 +13,8 @@ use Rattle.ddl_dm.specs.declared.token.Token.{Token}
 use Rattle.ddl_dm.specs.declared.token.Token.TheVariants as tokens
 use Rattle.ddl_dm.specs.declared.token.Placed.{Placed}
 use Rattle.ddl_dm.specs.Words.{Name, Mark, character, spelling, spells_word, asked, sign_of, word_of, name_of, begins_key, column_name_of, number_of}
-use Rattle.ddl_dm.specs.Reading.{is_sign, is_word}
-
-pub data First : Type 0 where
-  a_word : Keyword → First
-  a_sign : Sign → First
-
-abbrev pub is_first : First → Placed → Bool
-is_first (a_word k) t = is_word k t
-is_first (a_sign s) t = is_sign s t
-
-abbrev pub is_one_of : List First → Placed → Bool
-is_one_of [] t = false
-is_one_of (f ∷ fs) t = is_first f t || is_one_of fs t
+use Rattle.ddl_dm.specs.Reading.{is_sign, is_word, First, is_first, is_one_of}
+use Rattle.ddl_dm.specs.Reading.First.{a_word, a_sign}
 
 -- ---- two of them
 

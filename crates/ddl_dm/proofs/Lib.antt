@@ -1,3 +1,4 @@
 pub mod Firsts
 pub mod Readers
+pub mod ColumnReaders
 pub mod Loops

@@ -15,8 +15,9 @@ use Rattle.ddl_dm.specs.declared.token.Placed.{Placed}
 use Rattle.ddl_dm.specs.Words.{Name, Mark, sign_of, word_of, name_of}
 use Rattle.ddl_dm.specs.Grammar.{sign, word, name, list, action, rule, target, primary, unique, foreign, key, constraint_name, named_key}
 use Rattle.ddl_dm.specs.Reading.{is_sign, is_word, word_at, name_at, next_name_at, names_at, list_at, set_action_at, action_at, event_at, rule_at, rules_at, given_list_at, target_at, primary_at, unique_at, foreign_at, key_at, constraint_name_at, after_name_at, named_key_at}
-use Rattle.ddl_dm.proofs.Firsts.{First, is_one_of, two_apart, first_among}
-use Rattle.ddl_dm.proofs.Firsts.First.{a_word, a_sign}
+use Rattle.ddl_dm.specs.Reading.{First, is_one_of}
+use Rattle.ddl_dm.specs.Reading.First.{a_word, a_sign}
+use Rattle.ddl_dm.proofs.Firsts.{two_apart, first_among}
 
 -- ---- lists of names
 

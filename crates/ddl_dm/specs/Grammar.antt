@@ -19,6 +19,7 @@ use Rattle.ddl_dm.specs.declared.token.Keyword.TheVariants as keywords
 use Rattle.ddl_dm.specs.declared.token.Sign.{Sign}
 use Rattle.ddl_dm.specs.declared.token.Sign.TheVariants as signs
 use Rattle.ddl_dm.specs.declared.token.Placed.{Placed}
+use Rattle.ddl_dm.specs.declared.token.TypeWord.{TypeWord}
 use Rattle.ddl_dm.specs.declared.syntax.ColumnType.{ColumnType}
 use Rattle.ddl_dm.specs.declared.syntax.Target.{Target}
 use Rattle.ddl_dm.specs.declared.syntax.Key.{Key}
@@ -132,13 +133,16 @@ without_time_zone =
     then (word keywords.Time) (λ _.
     word keywords.Zone))
 
-unfoldable pub column_type : Part Placed ColumnType
-column_type =
-    then (token (λ t. type_word_of t.token)) (λ first.
+-- behind the first word
+unfoldable pub type_end : TypeWord → Part Placed ColumnType
+type_end first =
     then (where_allowed first.varies (word keywords.Varying)) (λ _.
     then (skip (optional length)) (λ _.
     then (where_allowed first.zoned without_time_zone) (λ _.
-    give first.kind))))
+    give first.kind)))
+
+unfoldable pub column_type : Part Placed ColumnType
+column_type = then (token (λ t. type_word_of t.token)) type_end
 
 -- ---- column
 

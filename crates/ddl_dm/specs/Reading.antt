@@ -53,6 +53,19 @@ is_sign s t = is_some (sign_of s t.token)
 abbrev pub is_word : Keyword → Placed → Bool
 is_word k t = is_some (word_of k t.token)
 
+-- a word or a mark that comes first
+pub data First : Type 0 where
+  a_word : Keyword → First
+  a_sign : Sign → First
+
+abbrev pub is_first : First → Placed → Bool
+is_first (a_word k) t = is_word k t
+is_first (a_sign s) t = is_sign s t
+
+abbrev pub is_one_of : List First → Placed → Bool
+is_one_of [] t = false
+is_one_of (f ∷ fs) t = is_first f t || is_one_of fs t
+
 -- ---- list
 
 unfoldable pub next_name_at : List Placed → Read Name
@@ -253,10 +266,12 @@ constraint_at ts = do
   name ← after_name_at ts
   bare_constraint_at name.1
 
-abbrev pub begins_constraint : Placed → Bool
-begins_constraint t =
-    is_word keywords.Constraint t || is_word keywords.Primary t || is_word keywords.Unique t || is_word keywords.Not t
-    || is_word keywords.Null t || is_word keywords.References t
+abbrev pub constraint_firsts : List First
+constraint_firsts =
+    a_word keywords.Constraint ∷ a_word keywords.Primary ∷ a_word keywords.Unique ∷ a_word keywords.Not ∷ a_word keywords.Null ∷ a_word keywords.References ∷ []
+
+unfoldable pub begins_constraint : Placed → Bool
+begins_constraint t = is_one_of constraint_firsts t
 
 unfoldable pub constraints_at : List Placed → Read (List Constraint)
 constraints_at = many_at begins_constraint constraint_at
@@ -270,8 +285,11 @@ column_at ts = do
 
 -- ---- item and statement
 
-abbrev pub begins_named_key : Placed → Bool
-begins_named_key t = is_word keywords.Constraint t || is_word keywords.Primary t || is_word keywords.Unique t || is_word keywords.Foreign t
+abbrev pub key_firsts : List First
+key_firsts = a_word keywords.Constraint ∷ a_word keywords.Primary ∷ a_word keywords.Unique ∷ a_word keywords.Foreign ∷ []
+
+unfoldable pub begins_named_key : Placed → Bool
+begins_named_key t = is_one_of key_firsts t
 
 unfoldable pub item_at : List Placed → Read Item
 item_at ts = elim (starts begins_named_key ts) [
@@ -298,9 +316,15 @@ abbrev pub takes_if : List Placed → Bool
 takes_if [] = false
 takes_if (t ∷ ts) = is_word keywords.If t && starts (is_word keywords.Not) ts
 
+unfoldable pub if_not_exists_at : List Placed → Read Mark
+if_not_exists_at ts = do
+  if' ← word_at keywords.If ts
+  not ← word_at keywords.Not if'.1
+  word_at keywords.Exists not.1
+
 unfoldable pub created_at : List Placed → Read Statement
 created_at ts = elim (takes_if ts) [
-  | true ↦ (word_at keywords.If ts >>= λ if'. word_at keywords.Not if'.1 >>= λ not. word_at keywords.Exists not.1 >>= λ exists. table_body_at exists.1)
+  | true ↦ (if_not_exists_at ts >>= λ exists. table_body_at exists.1)
   | false ↦ table_body_at ts
 ]
 
@@ -346,8 +370,11 @@ statement_at ts = elim (starts (is_word keywords.Create) ts) [
 
 -- ---- file
 
-abbrev pub begins_statement : Placed → Bool
-begins_statement t = is_word keywords.Create t || is_word keywords.Alter t
+abbrev pub statement_firsts : List First
+statement_firsts = a_word keywords.Create ∷ a_word keywords.Alter ∷ []
+
+unfoldable pub begins_statement : Placed → Bool
+begins_statement t = is_one_of statement_firsts t
 
 unfoldable pub optional_statement_at : List Placed → Read (Option Statement)
 optional_statement_at = optional_at begins_statement statement_at

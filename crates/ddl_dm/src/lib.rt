@@ -1,6 +1,7 @@
 //! SQL's CREATE TABLE and ALTER TABLE: tokens, statements, and the first fault of a text.
 #![tactic(auto)]
 
+mod columns;
 mod keys;
 mod reader;
 mod syntax;

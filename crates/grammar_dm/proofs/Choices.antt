@@ -5,7 +5,7 @@ use Rattle.grammar_dm.specs.Part.{Part, Repeats, Spells, Begins, Marks, separate
 use Rattle.grammar_dm.specs.Part.Part.{token, give, then, or, optional, repeated}
 use Rattle.grammar_dm.specs.Part.Repeats.{no_repeat, one_more}
 use Rattle.grammar_dm.specs.Reading.{Answer, ◌>>=◌, token_at, took, starts, at_most, many_at, optional_at, skip_optional_at, skip_many_at, behind_at, separated_at}
-use Rattle.grammar_dm.proofs.Fronts.{whole_begins, nothing_begins}
+use Rattle.grammar_dm.proofs.Fronts.{suffix_length, behind_whole, whole_begins, nothing_begins}
 use Rattle.grammar_dm.proofs.Laws.{no_goes, blocked_apart, rest_of, Goes, Stands, Reads, Within, Apart, Blocked, no, short_of, give_reads, give_apart, token_reads, token_blocked, then_reads, then_give, then_apart, then_blocked, token_then, token_takes, token_then_blocked}
 
 -- ---- tests of a first token
@@ -105,6 +105,39 @@ behind_took b more ts rb t None e h = absurd cc
 pub behind_token : {T A B : Type 0} (f : T → Option A) (b : A → Part T B) (more : T → Bool) (t : T) (ts : List T) (rb : A × List T → Answer T B) → is_some (f t) ≡ true
     → ((x : A) → Reads (b x) more ts (rb (x, ts))) → length (rest_of (token_at f (t ∷ ts) >>= rb)) ≤ length ts
 behind_token f b more t ts rb e h = behind_took b more ts rb t (f t) e h
+
+-- the same, where what follows ends within a bound
+past_took : {T A B : Type 0} (ts : List T) (rb : A × List T → Answer T B) (t : T) (o : Option A) (n : ℕ) → is_some o ≡ true → ((x : A) → length (rest_of (rb (x, ts))) ≤ n) → length (rest_of (took o t ts >>= rb)) ≤ n
+past_took ts rb t (Some x) n e h = h x
+past_took ts rb t None n e h = absurd cc
+
+pub past_token : {T A B : Type 0} (f : T → Option A) (t : T) (ts : List T) (rb : A × List T → Answer T B) (n : ℕ) → is_some (f t) ≡ true → ((x : A) → length (rest_of (rb (x, ts))) ≤ n) → length (rest_of (token_at f (t ∷ ts) >>= rb)) ≤ n
+past_token f t ts rb n e h = past_took ts rb t (f t) n e h
+
+-- a first part that isn't whole, and gets no further than the rest
+pub then_within : {T A B : Type 0} (a : Part T A) (b : A → Part T B) (more : T → Bool) (ts rest : List T) → Within a no ts rest → Within (then a b) more ts rest
+then_within a b more ts rest pa = record {
+  begins = λ r. elim [ inl h ↦ pa.begins r h | inr h ↦ no_goes h.0 (pa.spells h.0 h.1 h.2).1 ];
+  spells = λ r v h. no_goes h.0 (pa.spells h.0 h.1 h.2).1;
+  marks = λ r. elim [ inl h ↦ pa.marks r h | inr h ↦ no_goes h.0 (pa.spells h.0 h.1 h.2).1 ];
+}
+
+-- ---- parts that take a token at least
+
+pub record Takes {T V : Type 0} (p : Part T V) : Type 0 where
+  pub takes : (ts r : List T) (v : V) → Spells p ts r v → length r < length ts
+
+pub takes_token : {T V : Type 0} (f : T → Option V) → Takes (token f)
+takes_token f = record { takes = λ ts r v h. omega (arith, ap length h.1) }
+
+pub takes_first : {T A B : Type 0} (a : Part T A) (b : A → Part T B) → Takes a → Takes (then a b)
+takes_first a b h = record { takes = λ ts r v s. omega (arith, h.takes ts s.0 s.1 s.2, suffix_length (behind_whole (b s.1) s.0 r v s.3)) }
+
+pub takes_second : {T A B : Type 0} (a : Part T A) (b : A → Part T B) → ((x : A) → Takes (b x)) → Takes (then a b)
+takes_second a b h = record { takes = λ ts r v s. omega (arith, (h s.1).takes s.0 r v s.3, suffix_length (behind_whole a ts s.0 s.1 s.2)) }
+
+pub takes_either : {T V : Type 0} (a b : Part T V) → Takes a → Takes b → Takes (or a b)
+takes_either a b p q = record { takes = λ ts r v. elim [ inl s ↦ p.takes ts r v s | inr s ↦ q.takes ts r v s ] }
 
 -- ---- one of two alternatives
 
