@@ -1,10 +1,10 @@
 -- Each reader reads its part: types, constraints and columns.
-use Rattle.std.proofs.Common.{◌≡◌, ◌≤◌, ◌<◌, Bool, true, false, List, [], ◌∷◌, length, Option, Some, None, Result, Ok, Err, refl}
+use Rattle.std.proofs.Common.{◌≡◌, Bool, true, false, List, [], ◌∷◌, Ok, refl}
 use Rattle.std.specs.Prelude.{is_some}
-use Rattle.grammar_dm.specs.Part.{Part, Spells, skip}
-use Rattle.grammar_dm.specs.Part.Part.{token, give, then, or, optional, repeated, marked}
-use Rattle.grammar_dm.specs.Reading.{◌>>=◌, token_at, starts, many_at}
-use Rattle.grammar_dm.proofs.Laws.{Goes, Reads, Apart, Blocked, no, no_goes, token_reads, token_blocked, token_then, token_then_blocked, then_reads, then_give, then_apart, then_blocked, give_reads, give_apart, marked_reads}
+use Rattle.grammar_dm.specs.Part.{Part, skip}
+use Rattle.grammar_dm.specs.Part.Part.{give, then, optional, repeated, marked}
+use Rattle.grammar_dm.specs.Reading.{◌>>=◌, starts}
+use Rattle.grammar_dm.proofs.Laws.{Goes, Reads, Apart, Blocked, no, token_reads, token_blocked, token_then, token_then_blocked, then_reads, then_give, then_apart, then_blocked, give_reads, give_apart, marked_reads}
 use Rattle.grammar_dm.proofs.Choices.{parted, widened, reads_wider, or_by, or_apart, skip_optional_reads, skip_optional_apart, option_then_apart, Repeatable, repeated_reads, repeated_apart, Takes, takes_token, takes_first, takes_second, takes_either}
 use Rattle.grammar_dm.proofs.Walks.{IsStrict, is_strict}
 use Rattle.ddl_dm.specs.declared.token.Keyword.{Keyword}
@@ -12,10 +12,8 @@ use Rattle.ddl_dm.specs.declared.token.Keyword.TheVariants as keywords
 use Rattle.ddl_dm.specs.declared.token.Sign.TheVariants as signs
 use Rattle.ddl_dm.specs.declared.token.Placed.{Placed}
 use Rattle.ddl_dm.specs.declared.token.TypeWord.{TypeWord}
-use Rattle.ddl_dm.specs.declared.syntax.ColumnType.{ColumnType}
-use Rattle.ddl_dm.specs.declared.syntax.Constraint.{Constraint}
 use Rattle.ddl_dm.specs.declared.syntax.Constraint.TheVariants as constraints
-use Rattle.ddl_dm.specs.Words.{Mark, sign_of, word_of, number_of, column_name_of, type_word_of}
+use Rattle.ddl_dm.specs.Words.{Mark, column_name_of}
 use Rattle.ddl_dm.specs.Grammar as grammar
 use Rattle.ddl_dm.specs.Grammar.{sign, word, number, target, constraint_name, where_allowed, without_time_zone, type_end, column_type, bare_constraint, constraint, column_name, column}
 use Rattle.ddl_dm.specs.Reading.{is_sign, is_word, First, is_one_of, word_at, scale_at, after_scale_at, length_at, after_length_at, after_varying_at, zone_at, after_zone_at, bare_type_at, column_type_at, references_at, primary_key_at, is_unique_at, not_null_at, null_at, bare_constraint_at, constraint_at, constraint_firsts, begins_constraint, constraints_at, column_at}

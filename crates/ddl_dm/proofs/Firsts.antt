@@ -1,19 +1,15 @@
 -- Which first tokens shut one another out: decided by how the words are spelled.
-use Rattle.std.proofs.Common.{◌≡◌, ℕ, List, [], ◌∷◌, Bool, true, false, Option, Some, None, refl, sym, ap, ◌∙◌, encode_utf8_all, nat_eq}
+use Rattle.std.proofs.Common.{◌≡◌, ℕ, List, [], ◌∷◌, Bool, true, false, refl, sym, ap, ◌∙◌, encode_utf8_all}
 use Rattle.std.proofs.lemmas.Bool.{eqb-true}
-use Rattle.std.specs.Prelude.{is_some, ◌==◌, ◌&&◌, ◌||◌, not, map, if◌then◌else◌}
+use Rattle.std.specs.Prelude.{is_some, ◌==◌, ◌&&◌, ◌||◌, not}
 use Rattle.std.specs.Str.{bytes_eq, str_to_ascii_lowercase, str_eq_ignore_ascii_case}
 use Rattle.std.specs.Cmp.Lexicographic.{bytes_decides}
-use Rattle.grammar_dm.specs.Reading.{starts}
 use Rattle.ddl_dm.specs.declared.token.Keyword.{Keyword}
-use Rattle.ddl_dm.specs.declared.token.Keyword.TheVariants as keywords
-use Rattle.ddl_dm.specs.declared.token.Sign.{Sign}
-use Rattle.ddl_dm.specs.declared.token.Sign.TheVariants as signs
 use Rattle.ddl_dm.specs.declared.token.Token.{Token}
 use Rattle.ddl_dm.specs.declared.token.Token.TheVariants as tokens
 use Rattle.ddl_dm.specs.declared.token.Placed.{Placed}
-use Rattle.ddl_dm.specs.Words.{Name, Mark, character, spelling, spells_word, asked, sign_of, word_of, name_of, begins_key, column_name_of, number_of}
-use Rattle.ddl_dm.specs.Reading.{is_sign, is_word, First, is_first, is_one_of}
+use Rattle.ddl_dm.specs.Words.{Name, character, spelling, spells_word, asked}
+use Rattle.ddl_dm.specs.Reading.{First, is_first, is_one_of}
 use Rattle.ddl_dm.specs.Reading.First.{a_word, a_sign}
 
 -- ---- two of them

@@ -1,4 +1,5 @@
 pub mod Firsts
 pub mod Readers
 pub mod ColumnReaders
+pub mod StatementReaders
 pub mod Loops

@@ -1,20 +1,18 @@
 -- Each reader reads its part: lists, targets and keys.
-use Rattle.std.proofs.Common.{◌≡◌, ℕ, ◌≤◌, ◌<◌, Bool, true, false, List, [], ◌∷◌, length, Option, Some, None, Result, Ok, Err, refl, sym, ap, subst, ◌∙◌, arith}
-use Rattle.std.specs.Prelude.{is_some}
-use Rattle.grammar_dm.specs.Part.{Part, Spells, separated_by, skip}
-use Rattle.grammar_dm.specs.Part.Part.{token, give, then, or, optional, repeated}
-use Rattle.grammar_dm.specs.Reading.{◌>>=◌, token_at, starts}
-use Rattle.grammar_dm.proofs.Laws.{Goes, Reads, Apart, Blocked, no, no_goes, token_reads, token_blocked, token_then, token_then_blocked, token_takes, then_reads, then_give, then_apart, closed_then, give_reads, give_apart}
+use Rattle.std.proofs.Common.{◌≡◌, ◌<◌, Bool, true, false, List, [], ◌∷◌, length, refl}
+use Rattle.grammar_dm.specs.Part.{Spells, separated_by, skip}
+use Rattle.grammar_dm.specs.Part.Part.{then, or, optional, repeated}
+use Rattle.grammar_dm.specs.Reading.{starts}
+use Rattle.grammar_dm.proofs.Laws.{Reads, Apart, Blocked, no, token_reads, token_blocked, token_then, token_then_blocked, token_takes, then_reads, then_give, then_apart, closed_then, give_reads, give_apart}
 use Rattle.grammar_dm.proofs.Choices.{parted, widened, closed_reads, or_by, or_apart, optional_reads, skip_optional_reads, option_then_apart, Repeatable, skip_repeated_reads, skip_repeated_apart, Separable, separated_reads, behind_repeatable}
 use Rattle.grammar_dm.proofs.Walks.{IsStrict, is_strict}
 use Rattle.ddl_dm.specs.declared.token.Keyword.{Keyword}
 use Rattle.ddl_dm.specs.declared.token.Keyword.TheVariants as keywords
-use Rattle.ddl_dm.specs.declared.token.Sign.{Sign}
 use Rattle.ddl_dm.specs.declared.token.Sign.TheVariants as signs
 use Rattle.ddl_dm.specs.declared.token.Placed.{Placed}
-use Rattle.ddl_dm.specs.Words.{Name, Mark, sign_of, word_of, name_of}
+use Rattle.ddl_dm.specs.Words.{Mark, sign_of, word_of}
 use Rattle.ddl_dm.specs.Grammar.{sign, word, name, list, action, rule, target, primary, unique, foreign, key, constraint_name, named_key}
-use Rattle.ddl_dm.specs.Reading.{is_sign, is_word, word_at, name_at, next_name_at, names_at, list_at, set_action_at, action_at, event_at, rule_at, rules_at, given_list_at, target_at, primary_at, unique_at, foreign_at, key_at, constraint_name_at, after_name_at, named_key_at}
+use Rattle.ddl_dm.specs.Reading.{is_sign, is_word, name_at, next_name_at, names_at, list_at, set_action_at, action_at, event_at, rule_at, rules_at, given_list_at, target_at, primary_at, unique_at, foreign_at, key_at, constraint_name_at, after_name_at, named_key_at}
 use Rattle.ddl_dm.specs.Reading.{First, is_one_of}
 use Rattle.ddl_dm.specs.Reading.First.{a_word, a_sign}
 use Rattle.ddl_dm.proofs.Firsts.{two_apart, first_among}

@@ -4,9 +4,11 @@
 mod columns;
 mod keys;
 mod reader;
+mod statements;
 mod syntax;
 mod token;
 
+pub use statements::parse;
 pub use syntax::{
     AlterTable, Column, ColumnType, Constraint, CreateTable, ForeignKey, Item, Key, Statement,
     Target,

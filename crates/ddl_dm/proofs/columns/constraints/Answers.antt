@@ -1,4 +1,4 @@
-use Rattle.std.proofs.Common.{◌≡◌, sym, ◌∙◌}
+use Rattle.std.proofs.Common.{sym, ◌∙◌}
 use Rattle.grammar_dm.proofs.Walks.{list_on}
 use Rattle.ddl_dm.specs.Reading.{begins_constraint, constraint_at, constraints_at}
 use Rattle.ddl_dm.proofs.Loops.{constraints_begin}
