@@ -1,0 +1,6 @@
+//! The tokens of SQL's table definitions, each with its place in the file.
+#![tactic(auto)]
+
+mod token;
+
+pub use token::{Placed, Sign, Token};
