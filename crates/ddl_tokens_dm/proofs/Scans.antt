@@ -148,7 +148,7 @@ quote_first c d ts b e = cond b (quote_second d ts e) (with_char c (quoted_at (d
 abbrev doubled_first : ℕ → List ℕ → Bool → List ℕ
 doubled_first c cs b = cond b (34 ∷ 34 ∷ doubled cs) (c ∷ doubled cs)
 
-quote_other : (c : ℕ) (ts : List ℕ) → (c == 34) ≡ false → quoted_at (c ∷ ts) ≡ with_char c (quoted_at ts)
+pub quote_other : (c : ℕ) (ts : List ℕ) → (c == 34) ≡ false → quoted_at (c ∷ ts) ≡ with_char c (quoted_at ts)
 unfolding quoted_at
 quote_other c [] e = ap (λ b. cond b (Some ([], [])) None) e
 quote_other c (d ∷ ts) e = ap (λ b. quote_first c d ts b (d == 34)) e
@@ -158,7 +158,7 @@ unfolding quoted_at
 quote_end [] e = refl
 quote_end (d ∷ ts) e = ap (λ b. quote_second d ts b) e
 
-quote_two : (ts : List ℕ) → quoted_at (34 ∷ 34 ∷ ts) ≡ with_char 34 (quoted_at ts)
+pub quote_two : (ts : List ℕ) → quoted_at (34 ∷ 34 ∷ ts) ≡ with_char 34 (quoted_at ts)
 unfolding quoted_at
 quote_two ts = refl
 
@@ -368,3 +368,89 @@ lexeme_stands (c ∷ ts) = by_word (begins_word c) refl
       → Stands (c ∷ ts) (word_step c ts b (cond (is_digit c) (Found Number (run_of is_digit ts).1) (cond (is_space c) (Between ts) (cond (c == 34) (identifier (quoted_at ts)) (cond (c == 45) (line_comment ts) (cond (c == 47) (comment ts) (sign_at c ts)))))))
     by_word true e = word_stands c ts e
     by_word false e = by_digit (is_digit c) refl
+
+-- ---- what stands there is answered
+
+abbrev between_as : List ℕ → Lexeme
+between_as rest = Between rest
+
+abbrev found_as : Token → List ℕ → Lexeme
+found_as token rest = Found token rest
+
+lex_digit : (c : ℕ) (ts : List ℕ) → is_digit c ≡ true → lexeme (c ∷ ts) ≡ Found Number (run_of is_digit ts).1
+unfolding lexeme
+lex_digit c ts e =
+    let others : Lexeme = cond (is_space c) (Between ts) (cond (c == 34) (identifier (quoted_at ts)) (cond (c == 45) (line_comment ts) (cond (c == 47) (comment ts) (sign_at c ts)))) in
+    ap (λ b. word_step c ts b (cond (is_digit c) (Found Number (run_of is_digit ts).1) others)) (digit_no_word c e)
+    ∙ ap (λ b. cond b (found_as Number (run_of is_digit ts).1) others) e
+
+lex_word : (c : ℕ) (ts : List ℕ) → begins_word c ≡ true → lexeme (c ∷ ts) ≡ Found (Word (c ∷ (run_of in_word ts).0)) (run_of in_word ts).1
+unfolding lexeme
+lex_word c ts e =
+    ap (λ b. word_step c ts b (cond (is_digit c) (Found Number (run_of is_digit ts).1) (cond (is_space c) (Between ts) (cond (c == 34) (identifier (quoted_at ts)) (cond (c == 45) (line_comment ts) (cond (c == 47) (comment ts) (sign_at c ts))))))) e
+
+lex_space : (c : ℕ) (ts : List ℕ) → is_space c ≡ true → lexeme (c ∷ ts) ≡ Between ts
+unfolding lexeme
+lex_space c ts e = space_is (λ n. lexeme (n ∷ ts) ≡ Between ts) c e refl refl refl refl refl
+
+lex_sign : (s : _) (ts : List ℕ) → lexeme (character s ∷ ts) ≡ Found (Sign s) ts
+unfolding lexeme sign_at
+lex_sign Open ts = refl
+lex_sign Close ts = refl
+lex_sign Comma ts = refl
+lex_sign Semicolon ts = refl
+
+lex_quote : (ts : List ℕ) → lexeme (34 ∷ ts) ≡ identifier (quoted_at ts)
+unfolding lexeme
+lex_quote ts = refl
+
+lex_dash : (ts : List ℕ) → lexeme (45 ∷ 45 ∷ ts) ≡ Between (run_of in_line ts).1
+unfolding lexeme
+lex_dash ts = refl
+
+lex_slash : (ts : List ℕ) → lexeme (47 ∷ 42 ∷ ts) ≡ skipped (after_close ts)
+unfolding lexeme
+lex_slash ts = refl
+
+pub token_found : (token : Token) (ts rest : List ℕ) → StandsToken token ts rest → lexeme ts ≡ Found token rest
+token_found (Sign s) ts rest h = ap lexeme h ∙ lex_sign s rest
+token_found Number ts rest ([], full, h) = absurd (full refl)
+token_found Number ts rest (d ∷ ds, full, h) =
+    let p = both_of (is_digit d) (list_all is_digit ds) h.pass in
+    ap lexeme h.whole ∙ lex_digit d (ds ++ rest) p.0 ∙ ap (λ (x : List ℕ × List ℕ). found_as Number x.1) (run_back is_digit ds rest p.1 h.ends)
+token_found (Word name) ts rest (first, others, behind, n, e, b, h) =
+    ap lexeme e ∙ lex_word first behind b
+    ∙ ap (λ (x : List ℕ × List ℕ). found_as (Word (first ∷ x.0)) x.1) (run_found in_word others behind rest h)
+    ∙ ap (λ us. found_as (Word us) rest) (sym n)
+token_found (Quoted name) ts rest (e, ends, (first, others, n, mark)) =
+    ap lexeme e ∙ lex_quote (doubled name ++ 34 ∷ rest) ∙ ap identifier (quote_back name rest ends)
+    ∙ ap (λ us. identifier (some_pair us rest)) n
+    ∙ ap (λ b. cond b Bad (found_as (Quoted (first ∷ others)) rest)) (is_not (first == byte_order_mark) (λ k. mark (eqb-true first byte_order_mark k)))
+    ∙ ap (λ us. found_as (Quoted us) rest) (sym n)
+
+pub between_found : (ts rest : List ℕ) → StandsBetween ts rest → lexeme ts ≡ Between rest
+between_found ts rest (inl (c, e, s)) = ap lexeme e ∙ lex_space c rest s
+between_found ts rest (inr (inl (behind, line, e, h))) =
+    ap lexeme e ∙ lex_dash behind ∙ ap (λ (x : List ℕ × List ℕ). between_as x.1) (run_found in_line line behind rest h)
+between_found ts rest (inr (inr (inside, e, h))) =
+    ap lexeme e ∙ lex_slash (inside ++ 42 ∷ 47 ∷ rest) ∙ ap skipped (close_back inside rest h)
+
+pub bad_is : (ts : List ℕ) → lexeme ts ≡ Bad → IsNoToken ts
+bad_is ts e = record {
+  no_token = λ token rest h. found_bad token rest (sym (token_found token ts rest h) ∙ e);
+  not_between = λ rest h. between_bad rest (sym (between_found ts rest h) ∙ e);
+}
+  where
+    found_bad : (token : Token) (rest : List ℕ) → Found token rest ≡ Bad → ⊥
+    found_bad token rest d = absurd cc
+    between_bad : (rest : List ℕ) → Between rest ≡ Bad → ⊥
+    between_bad rest d = absurd cc
+
+abbrev stands_as : List ℕ → Lexeme → Type 0
+stands_as = Stands
+
+pub between_is : (ts rest : List ℕ) → lexeme ts ≡ Between rest → StandsBetween ts rest
+between_is ts rest e = subst (λ (l : Lexeme). stands_as ts l) e (lexeme_stands ts)
+
+pub token_is : (ts rest : List ℕ) (token : Token) → lexeme ts ≡ Found token rest → StandsToken token ts rest
+token_is ts rest token e = subst (λ (l : Lexeme). stands_as ts l) e (lexeme_stands ts)

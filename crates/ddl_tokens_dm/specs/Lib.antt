@@ -1,3 +1,5 @@
 pub mod Characters
 pub mod Tokens
 pub mod Scanning
+pub mod Kinds
+pub mod Views

@@ -1,6 +1,8 @@
 //! The tokens of SQL's table definitions, each with its place in the file.
 #![tactic(auto)]
 
+mod lexer;
+mod text;
 mod token;
 
 pub use token::{Placed, Sign, Token};
