@@ -66,6 +66,8 @@ identifier_refused (c ∷ name) rest e = by_mark (c == byte_order_mark) e
     by_mark true d = refl
     by_mark false d = absurd cc
 
+pub ruleset identifiers = (identifier_taken, identifier_refused)
+
 -- ---- all tokens
 
 -- what was found of the text, whatever its rest consists of
@@ -82,10 +84,10 @@ pub read_token : (total place : ℕ) (text rest after : List ℕ) (found new : L
     → place ≡ total - length (encode_utf8_all rest) + 1 → new ≡ found ++ record { token = t; place = place } ∷ [] → Read total text new after
 read_token total place text rest after found new t r e at made = record {
   goes_on = λ others end h.
-    let one : Placed = record { token = t; place = total - length (encode_utf8_all rest) + 1 } in
-    let placed : new ≡ found ++ one ∷ [] = made ∙ ap (λ n. found ++ record { token = t; place = n } ∷ []) at in
-    subst (λ (fs : List Placed). Consists total text fs end) (sym (ap (λ fs. fs ++ others) placed ∙ append_assoc found (one ∷ []) others))
-    (r.goes_on (one ∷ others) end (token (token_is rest after t e) h));
+      let one : Placed = record { token = t; place = total - length (encode_utf8_all rest) + 1 } in
+      let placed : new ≡ found ++ one ∷ [] = made ∙ ap (λ n. found ++ record { token = t; place = n } ∷ []) at in
+      subst (λ (fs : List Placed). Consists total text fs end) (sym (ap (λ fs. fs ++ others) placed ∙ append_assoc found (one ∷ []) others))
+      (r.goes_on (one ∷ others) end (token (token_is rest after t e) h));
 }
 
 pub read_ends : (total : ℕ) (text rest : List ℕ) (found : List Placed) → Read total text found rest → Consists total text found rest

@@ -231,15 +231,19 @@ space_is W c e a b d f g = by_first (c == 32) refl e
   where
     from : (n : ℕ) → (c == n) ≡ true → W n → W c
     from n h w = subst W (sym (eqb-true c n h)) w
+
     by_fourth : (x : Bool) → (c == 10) ≡ x → (x || c == 12) ≡ true → W c
     by_fourth true h k = from 10 h f
     by_fourth false h k = from 12 k g
+
     by_third : (x : Bool) → (c == 13) ≡ x → (x || c == 10 || c == 12) ≡ true → W c
     by_third true h k = from 13 h d
     by_third false h k = by_fourth (c == 10) refl k
+
     by_second : (x : Bool) → (c == 9) ≡ x → (x || c == 13 || c == 10 || c == 12) ≡ true → W c
     by_second true h k = from 9 h b
     by_second false h k = by_third (c == 13) refl k
+
     by_first : (x : Bool) → (c == 32) ≡ x → (x || c == 9 || c == 13 || c == 10 || c == 12) ≡ true → W c
     by_first true h k = from 32 h a
     by_first false h k = by_second (c == 9) refl k
@@ -250,10 +254,13 @@ small_no_word c lt = is_not (begins_word c) (λ e. word_large c e lt)
   where
     upper : (n : ℕ) → (nat_le 65 n && nat_le n 90) ≡ true → n < 65 → ⊥
     upper n e l = omega (arith, leb-true 65 n (both_of (nat_le 65 n) (nat_le n 90) e).0)
+
     lower : (n : ℕ) → (nat_le 97 n && nat_le n 122) ≡ true → n < 65 → ⊥
     lower n e l = omega (arith, leb-true 97 n (both_of (nat_le 97 n) (nat_le n 122) e).0)
+
     beyond : (n : ℕ) → (nat_le 128 n && not (n == byte_order_mark)) ≡ true → n < 65 → ⊥
     beyond n e l = omega (arith, leb-true 128 n (both_of (nat_le 128 n) (not (n == byte_order_mark)) e).0)
+
     word_large : (n : ℕ) → begins_word n ≡ true → n < 65 → ⊥
     word_large n e l = elim (first_of n (nat_le 65 n && nat_le n 90 || nat_le 97 n && nat_le n 122 || n == 95) (nat_le 128 n && not (n == byte_order_mark)) e) [
       | inl h ↦ elim (first_of n (nat_le 65 n && nat_le n 90 || nat_le 97 n && nat_le n 122) (n == 95) h) [
@@ -302,8 +309,8 @@ identifier_stands c ts (Some (n ∷ name, rest)) e q = by_mark (n == byte_order_
     by_mark : (b : Bool) → (n == byte_order_mark) ≡ b → Stands (c ∷ ts) (cond b Bad (Found (Quoted (n ∷ name)) rest))
     by_mark true d = tt
     by_mark false d =
-      let h = quote_is ts (n ∷ name) rest q in
-      (ap (λ x. x ∷ ts) (eqb-true c 34 e) ∙ ap (λ us. 34 ∷ us) h.0, h.1, (n, name, refl, λ k. true_false (n == byte_order_mark) (ap (λ x. x == byte_order_mark) k) d))
+        let h = quote_is ts (n ∷ name) rest q in
+        (ap (λ x. x ∷ ts) (eqb-true c 34 e) ∙ ap (λ us. 34 ∷ us) h.0, h.1, (n, name, refl, λ k. true_false (n == byte_order_mark) (ap (λ x. x == byte_order_mark) k) d))
 
 line_stands : (c : ℕ) (ts : List ℕ) → (c == 45) ≡ true → Stands (c ∷ ts) (line_comment ts)
 line_stands c [] e = tt
@@ -320,8 +327,9 @@ comment_stands c (d ∷ ts) e = by_star (d == 42) refl
     by_close : (o : Option (List ℕ)) → (d == 42) ≡ true → after_close ts ≡ o → Stands (c ∷ d ∷ ts) (skipped o)
     by_close None f q = tt
     by_close (Some rest) f q =
-      let h = close_is ts rest q in
-      inr (inr (h.0, ap (λ x. x ∷ d ∷ ts) (eqb-true c 47 e) ∙ ap (λ x. 47 ∷ x ∷ ts) (eqb-true d 42 f) ∙ ap (λ us. 47 ∷ 42 ∷ us) h.1, h.2))
+        let h = close_is ts rest q in
+        inr (inr (h.0, ap (λ x. x ∷ d ∷ ts) (eqb-true c 47 e) ∙ ap (λ x. 47 ∷ x ∷ ts) (eqb-true d 42 f) ∙ ap (λ us. 47 ∷ 42 ∷ us) h.1, h.2))
+
     by_star : (b : Bool) → (d == 42) ≡ b → Stands (c ∷ d ∷ ts) (cond b (skipped (after_close ts)) Bad)
     by_star true f = by_close (after_close ts) f refl
     by_star false f = tt
@@ -333,12 +341,15 @@ sign_stands c ts = by_open (c == 40) refl
     as_semicolon : (b : Bool) → (c == 59) ≡ b → Stands (c ∷ ts) (cond b (Found (Sign Semicolon) ts) Bad)
     as_semicolon true e = ap (λ x. x ∷ ts) (eqb-true c 59 e)
     as_semicolon false e = tt
+
     as_comma : (b : Bool) → (c == 44) ≡ b → Stands (c ∷ ts) (cond b (Found (Sign Comma) ts) (cond (c == 59) (Found (Sign Semicolon) ts) Bad))
     as_comma true e = ap (λ x. x ∷ ts) (eqb-true c 44 e)
     as_comma false e = as_semicolon (c == 59) refl
+
     as_close : (b : Bool) → (c == 41) ≡ b → Stands (c ∷ ts) (cond b (Found (Sign Close) ts) (cond (c == 44) (Found (Sign Comma) ts) (cond (c == 59) (Found (Sign Semicolon) ts) Bad)))
     as_close true e = ap (λ x. x ∷ ts) (eqb-true c 41 e)
     as_close false e = as_comma (c == 44) refl
+
     by_open : (b : Bool) → (c == 40) ≡ b → Stands (c ∷ ts) (cond b (Found (Sign Open) ts) (cond (c == 41) (Found (Sign Close) ts) (cond (c == 44) (Found (Sign Comma) ts) (cond (c == 59) (Found (Sign Semicolon) ts) Bad))))
     by_open true e = ap (λ x. x ∷ ts) (eqb-true c 40 e)
     by_open false e = as_close (c == 41) refl
@@ -352,20 +363,25 @@ lexeme_stands (c ∷ ts) = by_word (begins_word c) refl
     by_slash : (b : Bool) → (c == 47) ≡ b → Stands (c ∷ ts) (cond b (comment ts) (sign_at c ts))
     by_slash true e = comment_stands c ts e
     by_slash false e = sign_stands c ts
+
     by_dash : (b : Bool) → (c == 45) ≡ b → Stands (c ∷ ts) (cond b (line_comment ts) (cond (c == 47) (comment ts) (sign_at c ts)))
     by_dash true e = line_stands c ts e
     by_dash false e = by_slash (c == 47) refl
+
     by_quote : (b : Bool) → (c == 34) ≡ b → Stands (c ∷ ts) (cond b (identifier (quoted_at ts)) (cond (c == 45) (line_comment ts) (cond (c == 47) (comment ts) (sign_at c ts))))
     by_quote true e = identifier_stands c ts (quoted_at ts) e refl
     by_quote false e = by_dash (c == 45) refl
+
     by_space : (b : Bool) → is_space c ≡ b → Stands (c ∷ ts) (cond b (Between ts) (cond (c == 34) (identifier (quoted_at ts)) (cond (c == 45) (line_comment ts) (cond (c == 47) (comment ts) (sign_at c ts)))))
     by_space true e = inl (c, refl, e)
     by_space false e = by_quote (c == 34) refl
+
     by_digit : (b : Bool) → is_digit c ≡ b → Stands (c ∷ ts) (cond b (Found Number (run_of is_digit ts).1) (cond (is_space c) (Between ts) (cond (c == 34) (identifier (quoted_at ts)) (cond (c == 45) (line_comment ts) (cond (c == 47) (comment ts) (sign_at c ts))))))
     by_digit true e = number_stands c ts e
     by_digit false e = by_space (is_space c) refl
+
     by_word : (b : Bool) → begins_word c ≡ b
-      → Stands (c ∷ ts) (word_step c ts b (cond (is_digit c) (Found Number (run_of is_digit ts).1) (cond (is_space c) (Between ts) (cond (c == 34) (identifier (quoted_at ts)) (cond (c == 45) (line_comment ts) (cond (c == 47) (comment ts) (sign_at c ts)))))))
+        → Stands (c ∷ ts) (word_step c ts b (cond (is_digit c) (Found Number (run_of is_digit ts).1) (cond (is_space c) (Between ts) (cond (c == 34) (identifier (quoted_at ts)) (cond (c == 45) (line_comment ts) (cond (c == 47) (comment ts) (sign_at c ts)))))))
     by_word true e = word_stands c ts e
     by_word false e = by_digit (is_digit c) refl
 
@@ -443,6 +459,7 @@ bad_is ts e = record {
   where
     found_bad : (token : Token) (rest : List ℕ) → Found token rest ≡ Bad → ⊥
     found_bad token rest d = absurd cc
+
     between_bad : (rest : List ℕ) → Between rest ≡ Bad → ⊥
     between_bad rest d = absurd cc
 

@@ -3,3 +3,4 @@ pub mod Tokens
 pub mod Scanning
 pub mod Kinds
 pub mod Views
+pub mod Answer

@@ -54,19 +54,19 @@ comment (c ∷ ts) = if c == 42 then skipped (after_close ts) else Bad
 
 unfoldable pub sign_at : ℕ → List ℕ → Lexeme
 sign_at c ts =
-  if c == 40 then Found (Sign Open) ts
-  else (if c == 41 then Found (Sign Close) ts
-  else (if c == 44 then Found (Sign Comma) ts
-  else (if c == 59 then Found (Sign Semicolon) ts
-  else Bad)))
+    if c == 40 then Found (Sign Open) ts
+    else (if c == 41 then Found (Sign Close) ts
+    else (if c == 44 then Found (Sign Comma) ts
+    else (if c == 59 then Found (Sign Semicolon) ts
+    else Bad)))
 
 unfoldable pub lexeme : List ℕ → Lexeme
 lexeme [] = Bad
 lexeme (c ∷ ts) =
-  if begins_word c then Found (Word (c ∷ (run_of in_word ts).0)) (run_of in_word ts).1
-  else (if is_digit c then Found Number (run_of is_digit ts).1
-  else (if is_space c then Between ts
-  else (if c == 34 then identifier (quoted_at ts)
-  else (if c == 45 then line_comment ts
-  else (if c == 47 then comment ts
-  else sign_at c ts)))))
+    if begins_word c then Found (Word (c ∷ (run_of in_word ts).0)) (run_of in_word ts).1
+    else (if is_digit c then Found Number (run_of is_digit ts).1
+    else (if is_space c then Between ts
+    else (if c == 34 then identifier (quoted_at ts)
+    else (if c == 45 then line_comment ts
+    else (if c == 47 then comment ts
+    else sign_at c ts)))))

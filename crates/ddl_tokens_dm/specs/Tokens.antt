@@ -49,7 +49,7 @@ abbrev pub StandsToken : Token → List ℕ → List ℕ → Type 0
 StandsToken (Sign s) ts rest = ts ≡ character s ∷ rest
 StandsToken Number ts rest = (digits : List ℕ) × (digits ≢ []) × IsRun is_digit digits ts rest
 StandsToken (Word name) ts rest =
-  (first : ℕ) × (others behind : List ℕ) × (name ≡ first ∷ others) × (ts ≡ first ∷ behind) × (begins_word first ≡ true) × IsRun in_word others behind rest
+    (first : ℕ) × (others behind : List ℕ) × (name ≡ first ∷ others) × (ts ≡ first ∷ behind) × (begins_word first ≡ true) × IsRun in_word others behind rest
 StandsToken (Quoted name) ts rest = (ts ≡ 34 ∷ (doubled name ++ 34 ∷ rest)) × (starts (λ c. c == 34) rest ≡ false) × IsIdentifier name
 
 -- ---- a text
@@ -59,7 +59,7 @@ pub data Consists (total : ℕ) : List ℕ → List Placed → List ℕ → Type
   nothing : {ts : List ℕ} → Consists total ts [] ts
   between : {ts after rest : List ℕ} {found : List Placed} → StandsBetween ts after → Consists total after found rest → Consists total ts found rest
   token : {ts after rest : List ℕ} {token : Token} {found : List Placed} → StandsToken token ts after → Consists total after found rest
-    → Consists total ts (record { token = token; place = total - length (encode_utf8_all ts) + 1 } ∷ found) rest
+      → Consists total ts (record { token = token; place = total - length (encode_utf8_all ts) + 1 } ∷ found) rest
 
 -- no token is at the front, nor what may stand between tokens
 pub record IsNoToken (ts : List ℕ) : Type 0 where
@@ -71,8 +71,13 @@ abbrev pub unmarked : List ℕ → List ℕ
 unmarked [] = []
 unmarked (c ∷ cs) = if c == byte_order_mark then cs else c ∷ cs
 
--- The tokens of a file of UTF-8 bytes; or those before the first text that is no token, and its place.
+-- The tokens of a text with which a file of so many bytes ends; or those before the first text that is no
+-- token, and its place.
+abbrev pub AreTokensOf : ℕ → List ℕ → List Placed → Option ℕ → Type 0
+AreTokensOf total text found None = Consists total text found []
+AreTokensOf total text found (Some place) =
+    (rest : List ℕ) × Consists total text found rest × IsNoToken rest × (rest ≢ []) × (place ≡ total - length (encode_utf8_all rest) + 1)
+
+-- the tokens of a file of UTF-8 bytes
 abbrev pub AreTokens : List ℕ → List Placed → Option ℕ → Type 0
-AreTokens bytes found None = Consists (length bytes) (unmarked (chars bytes)) found []
-AreTokens bytes found (Some place) =
-  (rest : List ℕ) × Consists (length bytes) (unmarked (chars bytes)) found rest × IsNoToken rest × (rest ≢ []) × (place ≡ length bytes - length (encode_utf8_all rest) + 1)
+AreTokens bytes found stop = AreTokensOf (length bytes) (unmarked (chars bytes)) found stop

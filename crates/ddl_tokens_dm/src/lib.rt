@@ -5,4 +5,5 @@ mod lexer;
 mod text;
 mod token;
 
+pub use lexer::{TokenError, tokens};
 pub use token::{Placed, Sign, Token};

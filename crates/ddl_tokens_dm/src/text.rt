@@ -1,8 +1,6 @@
 // The characters of a text, from the front.
 ghost use Rattle.std.specs.Prelude.{◌≡◌, ◌<◌, ◌≤◌, ◌++◌, [], ◌∷◌, length, chars, encode_utf8_all, string_bytes, MatchOption, IfSome, OnOk, IsUtf8};
 
-
-
 use std::alloc::AllocError;
 
 /// A kind of characters of which there may be a run.

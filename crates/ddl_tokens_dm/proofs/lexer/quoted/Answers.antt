@@ -12,15 +12,15 @@ quoted-init c = (quoted_begins (chars (string_bytes c.new-name.result)) (chars c
 pub quoted-preserved : goal.quoted-preserved
 quoted-preserved c = elim c.if-first-eq34.branch [
   | then-first-eq34+in-Some-strip_char w ↦ rw w.after-is (
-      quoted_twice (chars (string_bytes c.quoted.name)) (chars (string_bytes c.push_char.new.name)) (chars c.quoted.rest.now) (chars c.in-Some.behind.now) (chars w.in-Some-strip_char.second.now) c.in-Some.first (quoted_at (chars c.args.text.now))
+    quoted_twice (chars (string_bytes c.quoted.name)) (chars (string_bytes c.push_char.new.name)) (chars c.quoted.rest.now) (chars c.in-Some.behind.now) (chars w.in-Some-strip_char.second.now) c.in-Some.first (quoted_at (chars c.args.text.now))
         c.quoted.invariant.0 c.in_ok-push_char.ensures c.in-Some.ensures.chars w.if-first-eq34.true w.in-Some-strip_char.ensures.cases,
-      w.in-Some-strip_char.ensures.utf8,
-      omega (arith, w.in-Some-strip_char.ensures.shorter, c.in-Some.ensures.shorter, c.quoted.invariant.2),
-    )
+    w.in-Some-strip_char.ensures.utf8,
+    omega (arith, w.in-Some-strip_char.ensures.shorter, c.in-Some.ensures.shorter, c.quoted.invariant.2),
+  )
   | else-first-eq34 w ↦ rw w.after-is (
-      quoted_on (chars (string_bytes c.quoted.name)) (chars (string_bytes c.push_char.new.name)) (chars c.quoted.rest.now) (chars c.in-Some.behind.now) c.in-Some.first (quoted_at (chars c.args.text.now))
+    quoted_on (chars (string_bytes c.quoted.name)) (chars (string_bytes c.push_char.new.name)) (chars c.quoted.rest.now) (chars c.in-Some.behind.now) c.in-Some.first (quoted_at (chars c.args.text.now))
         c.quoted.invariant.0 c.in_ok-push_char.ensures c.in-Some.ensures.chars w.if-first-eq34.false,
-      c.in-Some.ensures.utf8,
-      omega (arith, c.in-Some.ensures.shorter, c.quoted.invariant.2),
-    )
+    c.in-Some.ensures.utf8,
+    omega (arith, c.in-Some.ensures.shorter, c.quoted.invariant.2),
+  )
 ]
