@@ -9,8 +9,8 @@ use Rattle.grammar_dm.proofs.Choices.{parted, widened, reads_wider, or_by, or_ap
 use Rattle.grammar_dm.proofs.Walks.{IsStrict, is_strict}
 use Rattle.ddl_dm.specs.declared.token.Keyword.{Keyword}
 use Rattle.ddl_dm.specs.declared.token.Keyword.TheVariants as keywords
-use Rattle.ddl_dm.specs.declared.token.Sign.TheVariants as signs
-use Rattle.ddl_dm.specs.declared.token.Placed.{Placed}
+use Rattle.ddl_tokens_dm.specs.declared.token.Sign.TheVariants as signs
+use Rattle.ddl_tokens_dm.specs.declared.token.Placed.{Placed}
 use Rattle.ddl_dm.specs.declared.token.TypeWord.{TypeWord}
 use Rattle.ddl_dm.specs.declared.syntax.Constraint.TheVariants as constraints
 use Rattle.ddl_dm.specs.Words.{Mark, column_name_of}

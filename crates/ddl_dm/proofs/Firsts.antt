@@ -5,10 +5,11 @@ use Rattle.std.specs.Prelude.{is_some, ◌==◌, ◌&&◌, ◌||◌, not}
 use Rattle.std.specs.Str.{bytes_eq, str_to_ascii_lowercase, str_eq_ignore_ascii_case}
 use Rattle.std.specs.Cmp.Lexicographic.{bytes_decides}
 use Rattle.ddl_dm.specs.declared.token.Keyword.{Keyword}
-use Rattle.ddl_dm.specs.declared.token.Token.{Token}
-use Rattle.ddl_dm.specs.declared.token.Token.TheVariants as tokens
-use Rattle.ddl_dm.specs.declared.token.Placed.{Placed}
-use Rattle.ddl_dm.specs.Words.{Name, character, spelling, spells_word, asked}
+use Rattle.ddl_tokens_dm.specs.declared.token.Token.{Token}
+use Rattle.ddl_tokens_dm.specs.declared.token.Token.TheVariants as tokens
+use Rattle.ddl_tokens_dm.specs.declared.token.Placed.{Placed}
+use Rattle.ddl_tokens_dm.specs.Characters.{character}
+use Rattle.ddl_dm.specs.Words.{Name, spelling, spells_word, asked}
 use Rattle.ddl_dm.specs.Reading.{First, is_first, is_one_of}
 use Rattle.ddl_dm.specs.Reading.First.{a_word, a_sign}
 

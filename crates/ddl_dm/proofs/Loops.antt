@@ -5,8 +5,8 @@ use Rattle.grammar_dm.specs.Exits.{Fails}
 use Rattle.grammar_dm.specs.declared.read_error.ReadError.{ReadError}
 use Rattle.grammar_dm.proofs.Walks.{Walk, walk_behind, walk_on, walk_less, walk_stops, walk_fails, ListWalk, list_behind, list_begins, lists, SkipWalk, skip_begins, skips}
 use Rattle.ddl_dm.specs.declared.token.Keyword.TheVariants as keywords
-use Rattle.ddl_dm.specs.declared.token.Sign.TheVariants as signs
-use Rattle.ddl_dm.specs.declared.token.Placed.{Placed}
+use Rattle.ddl_tokens_dm.specs.declared.token.Sign.TheVariants as signs
+use Rattle.ddl_tokens_dm.specs.declared.token.Placed.{Placed}
 use Rattle.ddl_dm.specs.Words.{Name}
 use Rattle.ddl_dm.specs.Reading.{is_sign, is_word, name_at, next_name_at, names_at, rule_at, rules_at, begins_constraint, constraint_at, constraints_at, item_at, next_item_at, items_at, Read, optional_statement_at, next_statement_at, file_at}
 use Rattle.ddl_dm.specs.Grammar.{present}

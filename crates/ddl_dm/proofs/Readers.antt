@@ -8,8 +8,8 @@ use Rattle.grammar_dm.proofs.Choices.{parted, widened, closed_reads, or_by, or_a
 use Rattle.grammar_dm.proofs.Walks.{IsStrict, is_strict}
 use Rattle.ddl_dm.specs.declared.token.Keyword.{Keyword}
 use Rattle.ddl_dm.specs.declared.token.Keyword.TheVariants as keywords
-use Rattle.ddl_dm.specs.declared.token.Sign.TheVariants as signs
-use Rattle.ddl_dm.specs.declared.token.Placed.{Placed}
+use Rattle.ddl_tokens_dm.specs.declared.token.Sign.TheVariants as signs
+use Rattle.ddl_tokens_dm.specs.declared.token.Placed.{Placed}
 use Rattle.ddl_dm.specs.Words.{Mark, sign_of, word_of}
 use Rattle.ddl_dm.specs.Grammar.{sign, word, name, list, action, rule, target, primary, unique, foreign, key, constraint_name, named_key}
 use Rattle.ddl_dm.specs.Reading.{is_sign, is_word, name_at, next_name_at, names_at, list_at, set_action_at, action_at, event_at, rule_at, rules_at, given_list_at, target_at, primary_at, unique_at, foreign_at, key_at, constraint_name_at, after_name_at, named_key_at}

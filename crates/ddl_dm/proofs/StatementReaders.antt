@@ -11,10 +11,10 @@ use Rattle.grammar_dm.proofs.Separated.{separated_same}
 use Rattle.grammar_dm.proofs.Walks.{IsStrict, is_strict}
 use Rattle.ddl_dm.specs.declared.token.Keyword.{Keyword}
 use Rattle.ddl_dm.specs.declared.token.Keyword.TheVariants as keywords
-use Rattle.ddl_dm.specs.declared.token.Sign.TheVariants as signs
-use Rattle.ddl_dm.specs.declared.token.Token.{Token}
-use Rattle.ddl_dm.specs.declared.token.Token.TheVariants as tokens
-use Rattle.ddl_dm.specs.declared.token.Placed.{Placed}
+use Rattle.ddl_tokens_dm.specs.declared.token.Sign.TheVariants as signs
+use Rattle.ddl_tokens_dm.specs.declared.token.Token.{Token}
+use Rattle.ddl_tokens_dm.specs.declared.token.Token.TheVariants as tokens
+use Rattle.ddl_tokens_dm.specs.declared.token.Placed.{Placed}
 use Rattle.ddl_dm.specs.declared.syntax.Statement.{Statement}
 use Rattle.ddl_dm.specs.Words.{Name, Mark, asked, spelling, spells_word, sign_of, word_of, name_of, column_name_of}
 use Rattle.ddl_dm.specs.Grammar.{sign, word, named_key, column, item, table_body, if_not_exists, create, added_key, alter, statement, present, file}

@@ -16,9 +16,9 @@ use Rattle.grammar_dm.specs.Part.{Part, ended_by, separated_by, skip}
 use Rattle.grammar_dm.specs.Part.Part.{token, give, then, or, optional, repeated, marked}
 use Rattle.ddl_dm.specs.declared.token.Keyword.{Keyword}
 use Rattle.ddl_dm.specs.declared.token.Keyword.TheVariants as keywords
-use Rattle.ddl_dm.specs.declared.token.Sign.{Sign}
-use Rattle.ddl_dm.specs.declared.token.Sign.TheVariants as signs
-use Rattle.ddl_dm.specs.declared.token.Placed.{Placed}
+use Rattle.ddl_tokens_dm.specs.declared.token.Sign.{Sign}
+use Rattle.ddl_tokens_dm.specs.declared.token.Sign.TheVariants as signs
+use Rattle.ddl_tokens_dm.specs.declared.token.Placed.{Placed}
 use Rattle.ddl_dm.specs.declared.token.TypeWord.{TypeWord}
 use Rattle.ddl_dm.specs.declared.syntax.ColumnType.{ColumnType}
 use Rattle.ddl_dm.specs.declared.syntax.Target.{Target}

@@ -3,9 +3,9 @@ use Rattle.std.specs.Prelude.{List, [], ◌∷◌, Option, Ok, Bool, true, false
 use Rattle.grammar_dm.specs.Reading.{Answer, ◌>>=◌, token_at, starts, many_at, optional_at, skip_optional_at, skip_many_at, behind_at, separated_at, marked_at, through}
 use Rattle.ddl_dm.specs.declared.token.Keyword.{Keyword}
 use Rattle.ddl_dm.specs.declared.token.Keyword.TheVariants as keywords
-use Rattle.ddl_dm.specs.declared.token.Sign.{Sign}
-use Rattle.ddl_dm.specs.declared.token.Sign.TheVariants as signs
-use Rattle.ddl_dm.specs.declared.token.Placed.{Placed}
+use Rattle.ddl_tokens_dm.specs.declared.token.Sign.{Sign}
+use Rattle.ddl_tokens_dm.specs.declared.token.Sign.TheVariants as signs
+use Rattle.ddl_tokens_dm.specs.declared.token.Placed.{Placed}
 use Rattle.ddl_dm.specs.declared.token.TypeWord.{TypeWord}
 use Rattle.ddl_dm.specs.declared.syntax.ColumnType.{ColumnType}
 use Rattle.ddl_dm.specs.declared.syntax.Target.{Target}

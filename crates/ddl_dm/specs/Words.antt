@@ -4,10 +4,10 @@ use Rattle.std.specs.Prelude.{ℕ, List, Option, Some, None, Bool, true, false, 
 use Rattle.std.specs.Str.{str_eq_ignore_ascii_case}
 use Rattle.ddl_dm.specs.declared.token.Keyword.{Keyword}
 use Rattle.ddl_dm.specs.declared.token.Keyword.TheVariants as keywords
-use Rattle.ddl_dm.specs.declared.token.Sign.{Sign}
-use Rattle.ddl_dm.specs.declared.token.Sign.TheVariants as signs
-use Rattle.ddl_dm.specs.declared.token.Token.{Token}
-use Rattle.ddl_dm.specs.declared.token.Token.TheVariants as tokens
+use Rattle.ddl_tokens_dm.specs.declared.token.Sign.{Sign}
+use Rattle.ddl_tokens_dm.specs.Characters.{character}
+use Rattle.ddl_tokens_dm.specs.declared.token.Token.{Token}
+use Rattle.ddl_tokens_dm.specs.declared.token.Token.TheVariants as tokens
 use Rattle.ddl_dm.specs.declared.token.TypeWord.{TypeWord}
 use Rattle.ddl_dm.specs.declared.syntax.ColumnType.{ColumnType}
 use Rattle.ddl_dm.specs.declared.syntax.ColumnType.TheVariants as kinds
@@ -19,12 +19,6 @@ Name = List ℕ
 -- a token that is there, and no more
 abbrev pub Mark : Type 0
 Mark = Unit {0}
-
-abbrev pub character : Sign → ℕ
-character signs.Open = 40
-character signs.Close = 41
-character signs.Comma = 44
-character signs.Semicolon = 59
 
 abbrev pub spelling : Keyword → List ℕ
 spelling keywords.Create = codes "CREATE"

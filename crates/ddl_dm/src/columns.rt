@@ -11,7 +11,8 @@ use crate::reader::{
     word,
 };
 use crate::syntax::{Column, ColumnType, Constraint};
-use crate::token::{Keyword, Placed, Sign, Token, TypeWord};
+use crate::token::{Keyword, TypeWord};
+use ddl_tokens_dm::{Placed, Sign, Token};
 use grammar_dm::ReadError;
 use std::alloc::Global;
 use value_dm::{Sequence, Text};

@@ -5,7 +5,8 @@ ghost use Rattle.ddl_dm.specs.Reading.{next_name_at, names_at, list_at, set_acti
 
 use crate::reader::{Read, Skip, name, sign, starts_with, starts_with_sign, word};
 use crate::syntax::{ForeignKey, Key, Target};
-use crate::token::{Keyword, Placed, Sign, Token};
+use crate::token::Keyword;
+use ddl_tokens_dm::{Placed, Sign, Token};
 use grammar_dm::ReadError;
 use std::alloc::Global;
 use value_dm::{Names, Sequence, Text};

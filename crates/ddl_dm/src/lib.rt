@@ -13,4 +13,4 @@ pub use syntax::{
     AlterTable, Column, ColumnType, Constraint, CreateTable, ForeignKey, Item, Key, Statement,
     Target,
 };
-pub use token::{Keyword, Placed, Sign, Token, TypeWord};
+pub use token::{Keyword, TypeWord};

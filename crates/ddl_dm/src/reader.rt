@@ -2,10 +2,12 @@
 ghost use Rattle.std.specs.Prelude.{◌≡◌, encode_utf8_all};
 ghost use Rattle.grammar_dm.specs.Exits.{Gives};
 ghost use Rattle.grammar_dm.specs.Reading.{starts};
-ghost use Rattle.ddl_dm.specs.Words.{character, spelling, spells_word, begins_key};
+ghost use Rattle.ddl_tokens_dm.specs.Characters.{character};
+ghost use Rattle.ddl_dm.specs.Words.{spelling, spells_word, begins_key};
 ghost use Rattle.ddl_dm.specs.Reading.{is_sign, is_word, sign_at, word_at, number_at, name_at, column_name_at};
 
-use crate::token::{Keyword, Placed, Sign, Token};
+use crate::token::Keyword;
+use ddl_tokens_dm::{Placed, Sign, Token};
 use grammar_dm::ReadError;
 use std::alloc::Global;
 use value_dm::{Text, TryCopy};

@@ -1,6 +1,6 @@
 use Rattle.std.proofs.Common.{sym, ◌∙◌}
 use Rattle.grammar_dm.proofs.Walks.{list_on}
-use Rattle.ddl_dm.specs.declared.token.Sign.TheVariants as signs
+use Rattle.ddl_tokens_dm.specs.declared.token.Sign.TheVariants as signs
 use Rattle.ddl_dm.specs.Reading.{is_sign, next_name_at, names_at}
 use Rattle.ddl_dm.proofs.Loops.{names_begin}
 use Rattle.ddl_dm.proofs.keys.names.Goals as goal

@@ -1,6 +1,6 @@
 use Rattle.std.proofs.Common.{length}
 use Rattle.grammar_dm.proofs.Walks.{ListWalk}
-use Rattle.ddl_dm.specs.declared.token.Sign.TheVariants as signs
+use Rattle.ddl_tokens_dm.specs.declared.token.Sign.TheVariants as signs
 use Rattle.ddl_dm.specs.Reading.{is_sign, next_name_at, names_at}
 use Rattle.ddl_dm.proofs.keys.names.Given as goal
 

@@ -1,6 +1,6 @@
 use Rattle.std.proofs.Common.{sym, ◌∙◌}
 use Rattle.grammar_dm.proofs.Walks.{list_on}
-use Rattle.ddl_dm.specs.declared.token.Sign.TheVariants as signs
+use Rattle.ddl_tokens_dm.specs.declared.token.Sign.TheVariants as signs
 use Rattle.ddl_dm.specs.Reading.{is_sign, next_item_at, items_at}
 use Rattle.ddl_dm.proofs.Loops.{items_begin}
 use Rattle.ddl_dm.proofs.statements.items.Goals as goal
