@@ -3,3 +3,4 @@ pub mod Readers
 pub mod ColumnReaders
 pub mod StatementReaders
 pub mod Loops
+pub mod Telling
