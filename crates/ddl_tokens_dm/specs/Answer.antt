@@ -10,6 +10,6 @@ use Rattle.ddl_tokens_dm.specs.Tokens.{AreTokens}
 -- longest UTF-8 front
 abbrev pub IsLexed : List ℕ → Result (List Placed × Option ℕ) TokenError → Type 0
 IsLexed bytes (Ok x) =
-  IsUtf8 bytes × AreTokens bytes x.0 x.1 × ((found : List Placed) (stop : Option ℕ) → AreTokens bytes found stop → (found ≡ x.0) × (stop ≡ x.1))
+    IsUtf8 bytes × AreTokens bytes x.0 x.1 × ((found : List Placed) (stop : Option ℕ) → AreTokens bytes found stop → (found ≡ x.0) × (stop ≡ x.1))
 IsLexed bytes (Err Memory) = Unit {0}
 IsLexed bytes (Err (NotUtf8 place)) = ¬ (IsUtf8 bytes) × ((n : ℕ) × IsValidUpTo bytes n × (place ≡ n + 1))
