@@ -1,0 +1,11 @@
+//! The tokens of SQL's table definitions, each with its place in the file.
+#![tactic(auto)]
+
+mod lexer;
+#[cfg(test)]
+mod tests;
+mod text;
+mod token;
+
+pub use lexer::{TokenError, tokens};
+pub use token::{Placed, Sign, Token};

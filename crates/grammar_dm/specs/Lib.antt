@@ -1,0 +1,4 @@
+pub mod Part
+pub mod Verdict
+pub mod Reading
+pub mod Exits
