@@ -1,9 +1,9 @@
 -- What is told is the first fault of the file.
-use Rattle.std.proofs.Common.{◌≡◌, ℕ, ◌+◌, List, [], ◌∷◌, length, Option, Some, None, Result, Ok, Err, Bool, true, false, refl, sym, ap, subst, ◌∙◌, inl, inr, ◌⊎◌, cond}
+use Rattle.std.proofs.Common.{◌≡◌, ℕ, ◌+◌, List, [], ◌∷◌, length, Option, Some, None, Result, Ok, Err, Bool, true, false, refl, subst, inl, inr, ◌⊎◌, cond}
 use Rattle.std.specs.Prelude.{IsUtf8}
 use Rattle.std.specs.Str.{IsValidUpTo}
-use Rattle.grammar_dm.specs.Part.{Spells, Begins, Marks}
-use Rattle.grammar_dm.specs.Verdict.{Suffix, IsFirstFault, Fault, Judges}
+use Rattle.grammar_dm.specs.Part.{Spells}
+use Rattle.grammar_dm.specs.Verdict.{Suffix, IsFirstFault, Judges}
 use Rattle.grammar_dm.specs.Verdict.Suffix.{all_left, less_left}
 use Rattle.grammar_dm.proofs.Fronts.{whole_begins, less_begins, suffix_trans}
 use Rattle.ddl_tokens_dm.specs.declared.token.Placed.{Placed}
@@ -12,7 +12,7 @@ use Rattle.ddl_dm.specs.declared.syntax.Statement.{Statement}
 use Rattle.ddl_dm.specs.declared.file.SyntaxError.{SyntaxError}
 use Rattle.ddl_dm.specs.declared.file.SyntaxError.TheVariants.{Memory, NotUtf8, BadToken, Unexpected, UnknownType}
 use Rattle.ddl_dm.specs.Grammar.{file}
-use Rattle.ddl_dm.specs.Answer.{is_bare_word, IsTypeFault, IsTokenFault, IsFile, IsRead, IsTold, end_told, fault_told, whole_told}
+use Rattle.ddl_dm.specs.Answer.{is_bare_word, IsTokenFault, IsFile, IsRead, IsTold, fault_told, whole_told}
 
 true_false : {W : Type 0} (b : Bool) → b ≡ true → b ≡ false → W
 true_false b d e = absurd cc
