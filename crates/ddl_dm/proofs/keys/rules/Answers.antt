@@ -1,5 +1,0 @@
-use Rattle.ddl_dm.proofs.Loops.{rules_begin}
-use Rattle.ddl_dm.proofs.keys.rules.Goals as goal
-
-pub rules-init : goal.rules-init
-rules-init c = rules_begin c.args.tokens.now
