@@ -1,6 +1,6 @@
 -- How texts that are put one after another join.
-use Rattle.std.specs.Prelude.{◌≡◌, ℕ, ◌+◌, ◌<◌, ◌≤◌, min, List, [], ◌∷◌, ◌++◌, length, take, drop, Option, Some, None, Result, Ok, Err}
-use Rattle.std.proofs.Common.{refl, sym, ap, subst, ◌∙◌, append_assoc, append-nil, arith, get_or, drop-cons, add-one}
+use Rattle.std.specs.Prelude.{◌≡◌, ℕ, ◌+◌, ◌<◌, ◌≤◌, min, List, [], ◌∷◌, ◌++◌, length, take, drop, Option, Result, Ok, Err}
+use Rattle.std.proofs.Common.{refl, sym, ap, subst, ◌∙◌, append-nil, arith, get_or, drop-cons, add-one}
 use Rattle.std.proofs.lemmas.List.{take-append-le, take_min, take-append-drop}
 use Rattle.std.proofs.lemmas.Grind.{flat_map-append}
 use Rattle.std.proofs.Math.Seq.{take-append-add, take-append_seam, take-suc}
@@ -9,7 +9,7 @@ use Rattle.std.specs.Io.KnownBytes.{Appends}
 use Rattle.std.proofs.KnownBytes.{Appends-nil, Appends-trans}
 use Rattle.outside_dm.specs.Counts.{Rose}
 use Rattle.outside_dm.specs.Sinks.{SinkState, SinkKeeps, AppendsPrefix, Puts, CountsShortage}
-use Rattle.outside_dm.specs.Putting.{Writes, Written, Passes, RanShort}
+use Rattle.outside_dm.specs.Putting.{Writes, Written, Passes}
 use Rattle.outside_dm.specs.declared.sink.PutError.{PutError}
 use Rattle.outside_dm.specs.declared.sink.PutError.TheVariants.{Failed, Memory}
 

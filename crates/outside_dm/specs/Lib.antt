@@ -5,3 +5,4 @@ pub mod Files
 pub mod Putting
 pub mod Transfers
 pub mod Storing
+pub mod Failing

@@ -1,5 +1,5 @@
 -- Texts that are put piece by piece.
-use Rattle.std.specs.Prelude.{◌≡◌, ℕ, List, Result, Ok, Err, ⊤}
+use Rattle.std.specs.Prelude.{ℕ, List, Result, Ok, Err, ⊤}
 use Rattle.std.specs.Io.KnownBytes.{Appends}
 use Rattle.outside_dm.specs.Counts.{Rose}
 use Rattle.outside_dm.specs.Sinks.{SinkState, SinkKeeps, Puts}

@@ -1,7 +1,7 @@
-ghost use Rattle.std.specs.Prelude.{◌≡◌, ◌↔◌, [], ◌∷◌, ◌++◌, length, IsTrue, OnOk, OnErr, IfErr, IfOk, encode_utf8_all};
+ghost use Rattle.std.specs.Prelude.{◌≡◌, ◌↔◌, [], ◌∷◌, ◌++◌, length, IsTrue, OnOk, OnErr, IfErr, IfOk, IfSome, IfNone, encode_utf8_all};
 ghost use Rattle.std.specs.Option.{option_copied};
 ghost use Rattle.std.specs.FinMap.{get, insert};
-ghost use Rattle.outside_dm.specs.Files.{files_of, NoneNamed};
+ghost use Rattle.outside_dm.specs.Files.{files_of, NoneNamed, IsFirstNamed, HasDistinctNames};
 
 use std::alloc::{AllocError, Global};
 use std::marker::Model;
@@ -28,6 +28,10 @@ impl Model for FileList {
     ghost Value = { List NamedFile };
 
     ghost view = { λ files. files.items.items };
+
+    ghost use Rattle.outside_dm.specs.Files.{HasDistinctNames};
+
+    ghost invariant = { λ files. HasDistinctNames files.items.items };
 }
 
 impl FileList {
@@ -64,11 +68,19 @@ impl FileList {
         self.items.len()
     }
 
-    /// The files in order.
+    /// The files in order, which have distinct names.
     pub fn as_slice(&self) -> &[NamedFile]
-        ensures { result.now ≡ self.now }
+        ensures items { result.now ≡ self.now }
+        ensures distinct { HasDistinctNames self.now }
     {
         self.items.as_slice()
+    }
+
+    /// Whether no file has this name.
+    pub fn lacks(&self, name: &str) -> bool
+        ensures { IsTrue result ↔ NoneNamed name.now self.now }
+    {
+        place_of(self.items.as_slice(), name).is_none()
     }
 
     /// The bytes under this name.
@@ -78,15 +90,23 @@ impl FileList {
         content_of(self.items.as_slice(), name)
     }
 
-    /// Puts a file before all others, so that it counts from now on.
-    pub(crate) fn put_first(&mut self, name: &str, bytes: &[u8]) -> Result<(), AllocError>
+    /// Replaces the bytes under this name, or appends a file. For want of memory it changes nothing.
+    pub(crate) fn replace(&mut self, name: &str, bytes: &[u8]) -> Result<(), AllocError>
         ensures ok { OnOk result (files_of self.new ≡ insert (files_of self.old) name.now bytes.now) }
         ensures err { OnErr result (self.new ≡ self.old) }
     {
-        let name = Text::from_str(self.alloc, name)?;
         let bytes = Bytes::from_vec(Vec::from_slice(self.alloc, bytes)?);
-        self.items.insert(0, NamedFile { name, bytes })?;
-        Ok(())
+        match place_of(self.items.as_slice(), name) {
+            Some(place) => {
+                self.items[place].bytes = bytes;
+                Ok(())
+            }
+            None => {
+                let name = Text::from_str(self.alloc, name)?;
+                self.items.push(NamedFile { name, bytes })?;
+                Ok(())
+            }
+        }
     }
 }
 
@@ -116,14 +136,25 @@ fn has_name(file: &NamedFile, name: &str) -> bool
     file.name.as_str() == name
 }
 
+/// The place of the first file with this name.
+fn place_of(files: &[NamedFile], name: &str) -> Option<usize>
+    ensures found { IfSome result (λ place. IsFirstNamed files.now name.now place) }
+    ensures none { IfNone result (NoneNamed name.now files.now) }
+{
+    for (place, file) in files.iter().enumerate() {
+        if has_name(file, name) {
+            return Some(place);
+        }
+    }
+    None
+}
+
 /// The bytes of the first file with this name.
 fn content_of<'a>(files: &'a [NamedFile], name: &str) -> Option<&'a [u8]>
     ensures { option_copied result ≡ get (files_of files.now) name.now }
 {
-    for file in files {
-        if has_name(file, name) {
-            return Some(file.bytes.as_slice());
-        }
+    match place_of(files, name) {
+        Some(place) => Some(files[place].bytes.as_slice()),
+        None => None,
     }
-    None
 }

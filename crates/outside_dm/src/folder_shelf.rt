@@ -1,5 +1,5 @@
-ghost use Rattle.std.specs.Prelude.{◌≡◌, ◌++◌, ◌≤◌, ℕ, List, None, [], OnOk, OnErr, length, string_bytes};
-ghost use Rattle.outside_dm.specs.Shelves.{longest};
+ghost use Rattle.std.specs.Prelude.{◌≡◌, ◌≢◌, ◌↔◌, None, [], OnOk, OnErr, string_bytes};
+ghost use Rattle.std.specs.IoError.{error_kind};
 ghost use Rattle.outside_dm.specs.Transfers.{GrowsShort};
 
 use crate::shelf::{LoadError, Shelf, StoreError};
@@ -101,8 +101,13 @@ fn read_file<R: Files>(rt: &R, name: &str, into: &mut Vec<u8>) -> Result<(), Loa
     }
 }
 
-/// Why a file can't be opened.
-fn open_refusal(error: &Error) -> LoadError {
+/// Why a file can't be opened: it is absent exactly where the system says that there is no such
+/// entry.
+fn open_refusal(error: &Error) -> LoadError
+    ensures absent { (result ≡ LoadError.Absent) ↔ (error_kind error.now ≡ ErrorKind.NotFound) }
+    ensures memory { (result ≡ LoadError.Memory) ↔ (error_kind error.now ≡ ErrorKind.OutOfMemory) }
+    ensures opened { result ≢ LoadError.TooLong }
+{
     match error.kind() {
         ErrorKind::NotFound => LoadError::Absent,
         ErrorKind::OutOfMemory => LoadError::Memory,
@@ -131,7 +136,9 @@ fn write_file<R: Files>(rt: &R, name: &str, bytes: &[u8]) -> Result<(), StoreErr
 }
 
 /// Why a file or a folder can't be made.
-fn store_refusal(error: &Error) -> StoreError {
+fn store_refusal(error: &Error) -> StoreError
+    ensures { (result ≡ StoreError.Memory) ↔ (error_kind error.now ≡ ErrorKind.OutOfMemory) }
+{
     match error.kind() {
         ErrorKind::OutOfMemory => StoreError::Memory,
         _ => StoreError::Failed,

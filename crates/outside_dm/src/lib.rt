@@ -4,15 +4,21 @@
 
 mod files;
 mod folder_shelf;
+mod memory_shelf;
+mod memory_sink;
 mod no_fault_shelf;
 mod no_fault_sink;
 mod shelf;
 mod sink;
 mod stream_sink;
+#[cfg(test)]
+mod tests;
 mod transfers;
 
 pub use files::{FileList, NamedFile};
 pub use folder_shelf::FolderShelf;
+pub use memory_shelf::{Calls, MemoryShelf};
+pub use memory_sink::{Cut, Cuts, MemorySink};
 pub use no_fault_shelf::NoFaultShelf;
 pub use no_fault_sink::NoFaultSink;
 pub use shelf::{LONGEST, LoadError, Shelf, StoreError};

@@ -65,7 +65,7 @@ impl Shelf for NoFaultShelf {
     }
 
     fn store(&mut self, name: &str, bytes: &[u8]) -> Result<(), StoreError> {
-        match self.files.put_first(name, bytes) {
+        match self.files.replace(name, bytes) {
             Ok(()) => Ok(()),
             Err(_) => Err(StoreError::Memory),
         }

@@ -1,4 +1,5 @@
-ghost use Rattle.std.specs.Prelude.{◌≡◌, ◌≢◌, ◌+◌, ◌≤◌, Err, take, length, OnOk, OnErr};
+ghost use Rattle.std.specs.Prelude.{◌≡◌, ◌≢◌, ◌↔◌, ◌+◌, ◌≤◌, IsTrue, Err, take, length, OnOk, OnErr};
+ghost use Rattle.std.specs.IoError.{error_kind};
 ghost use Rattle.std.specs.Io.KnownBytes.{Appends};
 ghost use Rattle.outside_dm.specs.Sinks.{AppendsPrefix};
 ghost use Rattle.outside_dm.specs.Shelves.{longest};
@@ -55,7 +56,9 @@ fn write_front<W: Write>(writer: &mut W, piece: &[u8]) -> Front
 }
 
 /// Whether the error says that memory ran out.
-fn is_short(error: &Error) -> bool {
+fn is_short(error: &Error) -> bool
+    ensures { IsTrue result ↔ (error_kind error.now ≡ ErrorKind.OutOfMemory) }
+{
     error.kind() == ErrorKind::OutOfMemory
 }
 

@@ -1,11 +1,12 @@
 -- Digits of a fixed count, and the number that they write.
-use Rattle.std.proofs.Common.{◌≡◌, ℕ, suc, zero, ◌+◌, ◌*◌, ◌/◌, ◌%◌, ◌^◌, ◌<◌, List, [], ◌∷◌, ◌++◌, length, refl, sym, ap, ◌∙◌, arith, length-append, append_assoc, zero-add, add-zero, append-nil}
+use Rattle.std.proofs.Common.{◌≡◌, ◌≢◌, ℕ, suc, zero, false, ◌+◌, ◌-◌, ◌*◌, ◌/◌, ◌%◌, ◌^◌, ◌<◌, List, [], ◌∷◌, ◌++◌, length, refl, sym, ap, ◌∙◌, arith, length-append, append_assoc, zero-add, add-zero, append-nil, eqb, eq-eqb, inl, inr}
+use Rattle.std.proofs.lemmas.Bool.Decides.{eqb_tells}
 use Rattle.std.specs.Char.{digit_value}
 use Rattle.std.specs.Str.Parse.{AllDigits, digits_value, digits_value_after}
 use Rattle.std.proofs.lemmas.Str.{digit_value_digit}
 use Rattle.std.proofs.lemmas.Str.Parse.{digit_from_value}
 use Rattle.std.proofs.lemmas.Int.Digits.{digits_value_push, digits_push}
-use Rattle.value_dm.specs.Digits.{fixed_digits}
+use Rattle.value_dm.specs.Digits.{fixed_digits, fraction_text, short_fraction_text}
 
 pub digit_char_value : (d : ℕ) → d < 10 → digit_value (48 + d) ≡ d
 digit_char_value d small = omega (arith, digit_value_digit (48 + d) (omega arith, omega arith))
@@ -58,3 +59,35 @@ pub fixed_digits-value : (ds : List ℕ) → AllDigits 10 ds → fixed_digits (l
 unfolding fixed_digits
 fixed_digits-value ds all =
     ap (λ k. fixed_digits k (digits_value 10 ds)) (sym (add-zero (length ds))) ∙ fixed_digits_after 0 0 ds all
+
+pub fixed_digits-none : (count n : ℕ) → count ≡ 0 → fixed_digits count n ≡ []
+unfolding fixed_digits
+fixed_digits-none count n e = rw e refl
+
+pub fixed_digits-step : (count n : ℕ) → 0 < count → fixed_digits count n ≡ fixed_digits (count - 1) (n / 10) ++ (48 + n % 10) ∷ []
+unfolding fixed_digits
+fixed_digits-step zero n some = absurd (omega arith)
+fixed_digits-step (suc count) n some = ap (λ k. fixed_digits k (n / 10) ++ (48 + n % 10) ∷ []) (sym (suc_less count))
+  where
+    suc_less : (k : ℕ) → suc k - 1 ≡ k
+    suc_less k = omega arith
+
+pub short_fraction-none : (count n : ℕ) → count ≡ 0 → short_fraction_text count n ≡ []
+unfolding short_fraction_text
+short_fraction-none count n e = rw e refl
+
+pub short_fraction-shorter : (count n : ℕ) → 0 < count → n % 10 ≡ 0 → short_fraction_text count n ≡ short_fraction_text (count - 1) (n / 10)
+unfolding short_fraction_text
+short_fraction-shorter zero n some h = absurd (omega arith)
+short_fraction-shorter (suc count) n some h = rw (eq-eqb (n % 10) 0 h) (ap (λ k. short_fraction_text k (n / 10)) (sym (suc_less count)))
+  where
+    suc_less : (k : ℕ) → suc k - 1 ≡ k
+    suc_less k = omega arith
+
+pub short_fraction-shortest : (count n : ℕ) → 0 < count → n % 10 ≢ 0 → short_fraction_text count n ≡ fraction_text count n
+unfolding short_fraction_text
+short_fraction-shortest zero n some h = absurd (omega arith)
+short_fraction-shortest (suc count) n some h = rw (eqb_other (n % 10) 0 h) refl
+  where
+    eqb_other : (a b : ℕ) → a ≢ b → eqb a b ≡ false
+    eqb_other a b h = elim (eqb_tells a b) [ inl p ↦ absurd (h p.1) | inr p ↦ p.0 ]

@@ -6,3 +6,9 @@ pub mod IntegerTexts
 pub mod Fronts
 pub mod Times
 pub mod Binaries
+pub mod CanonicalForms
+pub mod Ascii
+pub mod Values
+pub mod Written
+pub mod Texts
+pub mod CanonicalFields

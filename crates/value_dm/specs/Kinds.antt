@@ -1,4 +1,5 @@
 -- The kind of a value.
+use Rattle.std.specs.Prelude.{◌≡◌, Option, Some, None}
 use Rattle.value_dm.specs.declared.kind.Kind.{Kind}
 use Rattle.value_dm.specs.declared.kind.Kind.TheVariants as kind
 use Rattle.value_dm.specs.declared.value.Value.{Value}
@@ -13,3 +14,8 @@ kind_of (value.Date _) = kind.Date
 kind_of (value.Time _) = kind.Time
 kind_of (value.DateTime _) = kind.DateTime
 kind_of (value.Binary _) = kind.Binary
+
+-- NULL stands in a column of each kind
+abbrev pub IsOfKind : Kind → Option Value → Type 0
+IsOfKind k None = Unit {0}
+IsOfKind k (Some v) = kind_of v ≡ k

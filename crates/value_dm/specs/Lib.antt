@@ -3,8 +3,10 @@ pub mod Decimals
 pub mod Digits
 pub mod Equality
 pub mod Kinds
+pub mod Lawful
 pub mod Lexical
 pub mod Order
 pub mod Reading
 pub mod Sameness
 pub mod Spelling
+pub mod Written

@@ -1,5 +1,5 @@
 -- Words for the parts of a text that readers take one after another.
-use Rattle.std.specs.Prelude.{ℕ, ◌≢◌, ◌≤◌, List, [], ◌∷◌, ◌++◌, ◌==◌, ◌&&◌, if◌then◌else◌}
+use Rattle.std.specs.Prelude.{ℕ, ◌≡◌, ◌≢◌, ◌≤◌, List, [], ◌∷◌, ◌++◌, ◌==◌, ◌&&◌, if◌then◌else◌}
 use Rattle.std.specs.Char.{digit_value}
 use Rattle.value_dm.specs.Digits.{fixed_digits}
 
@@ -23,3 +23,12 @@ abbrev pub hex_digits_of : List ℕ → List ℕ
 hex_digits_of [] = []
 hex_digits_of (a ∷ []) = a ∷ []
 hex_digits_of (a ∷ b ∷ rest) = if (a == 92) && (b == 120) then rest else a ∷ b ∷ rest
+
+abbrev pub BeginsWithTwoBackslashes : List ℕ → Type 0
+BeginsWithTwoBackslashes [] = ⊥
+BeginsWithTwoBackslashes (a ∷ []) = ⊥
+BeginsWithTwoBackslashes (a ∷ b ∷ rest) = (a ≡ 92) × (b ≡ 92)
+
+abbrev pub BeginsWithBackslash : List ℕ → Type 0
+BeginsWithBackslash [] = ⊥
+BeginsWithBackslash (a ∷ rest) = a ≡ 92

@@ -13,8 +13,8 @@ use Rattle.value_dm.specs.declared.calendar.DateTime.{DateTime}
 use Rattle.value_dm.specs.declared.decimal.Decimal.{Decimal}
 use Rattle.value_dm.specs.declared.kind.Kind.{Kind}
 use Rattle.value_dm.specs.declared.kind.Kind.TheVariants as kind
-use Rattle.value_dm.specs.declared.field.NullMode.{NullMode}
-use Rattle.value_dm.specs.declared.field.NullMode.TheVariants as mode
+use Rattle.value_dm.specs.declared.mode.NullMode.{NullMode}
+use Rattle.value_dm.specs.declared.mode.NullMode.TheVariants as mode
 use Rattle.value_dm.specs.declared.value.Value.{Value}
 use Rattle.value_dm.specs.declared.value.Value.TheVariants as value
 
@@ -128,3 +128,6 @@ IsNull k field m = (field ≡ codes "\\N") ⊎ ((field ≡ []) × ((k ≢ kind.T
 abbrev pub Spells : Kind → List ℕ → NullMode → Option Value → Type 0
 Spells k field m None = IsNull k field m
 Spells k field m (Some v) = (¬ IsNull k field m) × (kind_of v ≡ k) × SpellsValue (unescaped k field) v
+
+abbrev pub mode_plain : NullMode
+mode_plain = mode.Plain

@@ -1,0 +1,9 @@
+pub mod FirstSchemaLemmas
+pub mod FirstRowsLemmas
+pub mod Outcomes
+pub mod Endings
+pub mod Lines
+pub mod DirectLevels
+pub mod LevelTextsLemmas
+pub mod AsciiTexts
+pub mod Promises

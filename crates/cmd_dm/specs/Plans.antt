@@ -1,0 +1,36 @@
+-- The commands: each as a script, with the devices that it writes to.
+use Rattle.std.specs.Prelude.{◌≡◌, ℕ, List, Option, Some, None, IfSome}
+use Rattle.outside_dm.specs.Shelves.{Files}
+use Rattle.cmd_dm.specs.Direct.{direct_script}
+use Rattle.cmd_dm.specs.Folder.{schema_file}
+use Rattle.cmd_dm.specs.Ending.{Target, to_output}
+use Rattle.cmd_dm.specs.Script.{Script, Outcome, usage, Comes}
+use Rattle.cmd_dm.specs.declared.status.File.{File}
+use Rattle.cmd_dm.specs.declared.status.File.TheVariants.{Schema, Table, Query, Graph, Pattern, More}
+use Rattle.cmd_dm.specs.declared.command.Command.{Command}
+use Rattle.cmd_dm.specs.declared.command.Command.TheVariants.{Direct}
+
+pub record Plan : Type 0 where
+  pub target : Target
+  pub script : Script
+
+abbrev pub plan_of : Command → Plan
+plan_of (Direct base folder) = record { target = to_output; script = direct_script base folder }
+
+-- the names of the files that the words alone name
+abbrev pub file_of : Command → File → Option (List ℕ)
+file_of (Direct base folder) Schema = Some (schema_file folder)
+file_of (Direct base folder) (Table number) = None
+file_of (Direct base folder) Query = None
+file_of (Direct base folder) Graph = None
+file_of (Direct base folder) Pattern = None
+file_of (Direct base folder) (More number) = None
+
+-- this is the name of the file, where the words alone name it
+abbrev pub NamesFile : Command → File → List ℕ → Type 0
+NamesFile command file name = IfSome (file_of command file) (λ named. name ≡ named)
+
+-- this comes of words, over these files
+abbrev pub IsOutcome : Files → Option Command → Outcome → Type 0
+IsOutcome files None outcome = outcome ≡ usage
+IsOutcome files (Some command) outcome = Comes files (plan_of command).script outcome

@@ -1,0 +1,63 @@
+ghost use Rattle.std.specs.Prelude.{◌≡◌};
+ghost use Rattle.cmd_dm.specs.FaultLine.{cause_name};
+
+/// The name of the cause with this code, or nothing where there is no such cause.
+#[tactic(auto, unfolding(crate::specs::FaultLine::cause_name))]
+pub(crate) fn cause_name(code: u8) -> &'static str
+    ensures { result.now ≡ cause_name code }
+{
+    match code {
+        1 => "BadValue",
+        2 => "NoTable",
+        3 => "NoColumn",
+        4 => "DuplicateTable",
+        5 => "DuplicateColumn",
+        6 => "UnknownColumn",
+        7 => "UnknownTable",
+        8 => "TwoPrimaryKeys",
+        9 => "NotAKey",
+        10 => "KindMismatch",
+        11 => "SameColumnsTwice",
+        12 => "NameClash",
+        13 => "TooManyTables",
+        14 => "TooManyColumns",
+        15 => "NotUtf8",
+        16 => "BadToken",
+        17 => "Unexpected",
+        18 => "UnknownType",
+        19 => "NoHeader",
+        20 => "BadHeader",
+        21 => "FieldCount",
+        22 => "TextNotUtf8",
+        23 => "BadValue",
+        24 => "NullRefused",
+        25 => "TooManyRows",
+        26 => "BadBase",
+        27 => "NotSafe",
+        28 => "BadLine",
+        29 => "TooManyTriples",
+        30 => "Unexplained",
+        31 => "TwoValues",
+        32 => "TwoTables",
+        33 => "NoKeyValue",
+        34 => "BadQuery",
+        35 => "NoSuchTable",
+        36 => "NoSuchColumn",
+        37 => "NameTaken",
+        38 => "NotSameColumns",
+        39 => "EmptyProject",
+        40 => "TooDeep",
+        41 => "BadName",
+        42 => "KeyViolated",
+        43 => "AlterUnknown",
+        44 => "NoTables",
+        45 => "TooWide",
+        46 => "UniqueViolated",
+        47 => "BadPattern",
+        48 => "TooNested",
+        50 => "BatchKeyViolated",
+        51 => "BatchUniqueViolated",
+        60 => "NotYet",
+        _ => "",
+    }
+}

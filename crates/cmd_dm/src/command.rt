@@ -1,0 +1,14 @@
+use value_dm::Text;
+
+/// A command with its words.
+#[derive(Drop)]
+pub enum Command {
+    /// Writes the direct graph of the database in a folder.
+    Direct {
+        /// What the graph's IRIs begin with.
+        base: Text,
+
+        /// The folder with `schema.sql` and one CSV file a table.
+        folder: Text,
+    },
+}

@@ -1,0 +1,114 @@
+ghost use Rattle.std.specs.Prelude.{◌≡◌, ◌⊎◌, ◌↔◌, ◌≤◌, ◌+◌, Some, None, List, ℕ, IsTrue, IfSome, length, map, string_bytes};
+ghost use Rattle.std.specs.FinMap.{get};
+ghost use Rattle.names_dm.specs.Namespaces.{is_base};
+ghost use Rattle.outside_dm.specs.Shelves.{Files, longest};
+ghost use Rattle.cmd_dm.specs.Ending.{Ends, NoFault, Untouched, result_status};
+ghost use Rattle.cmd_dm.specs.FaultLine.{Tells};
+ghost use Rattle.cmd_dm.specs.FirstRows.{IsFirstRows};
+ghost use Rattle.cmd_dm.specs.FirstSchema.{IsFirstSchema};
+ghost use Rattle.cmd_dm.specs.Folder.{schema_file, table_file};
+ghost use Rattle.cmd_dm.specs.Headline.{HoldsFile, WritesGraph};
+ghost use Rattle.cmd_dm.specs.Plans.{IsOutcome, NamesFile, plan_of};
+ghost use Rattle.cmd_dm.specs.Script.{Outcome, status_of};
+ghost use Rattle.cmd_dm.specs.Words.{command_of};
+ghost use Rattle.cmd_dm.specs.declared.command.Command.TheVariants.{Direct};
+ghost use Rattle.cmd_dm.specs.declared.first_schema.TextTable.{TextTable};
+ghost use Rattle.cmd_dm.specs.declared.status.File.{File};
+
+use crate::command::Command;
+use crate::direct::run_direct;
+use crate::fault_line::tell;
+use crate::status::Status;
+use crate::words::{WordError, read_words};
+use outside_dm::{Shelf, Sink};
+use std::alloc::Global;
+
+/// Runs a command.
+fn run_command<S: Shelf, K: Sink>(
+    alloc: Global,
+    command: &Command,
+    shelf: &mut S,
+    out: &mut K,
+) -> Result<(), Status>
+    ensures { Ends (plan_of command.now).target (plan_of command.now).script
+        (S.state shelf.old) (S.state shelf.new) (K.state out.old) (K.state out.new) (result_status result) }
+{
+    match command {
+        Command::Direct { base, folder } => run_direct(alloc, base, folder, shelf, out),
+    }
+}
+
+/// The status of a command's result.
+fn status_of(outcome: Result<(), Status>) -> Status
+    ensures { result ≡ result_status outcome }
+{
+    match outcome {
+        Ok(()) => Status::Ok,
+        Err(status) => status,
+    }
+}
+
+/// Runs the command that the words stand for, and says nothing of how it ended.
+fn decide<S: Shelf, K: Sink>(alloc: Global, words: &[String], shelf: &mut S, out: &mut K) -> Status
+    ensures usage { (result ≡ Status.Usage) ↔ (command_of (map string_bytes words.now) ≡ None) }
+    ensures no_command { command_of (map string_bytes words.now) ≡ None → (S.state shelf.new ≡ S.state shelf.old) × (K.state out.new ≡ K.state out.old) }
+    ensures ends { (command : _) → command_of (map string_bytes words.now) ≡ Some command →
+        Ends (plan_of command).target (plan_of command).script
+        (S.state shelf.old) (S.state shelf.new) (K.state out.old) (K.state out.new) result }
+{
+    match read_words(alloc, words) {
+        Ok(command) => status_of(run_command(alloc, &command, shelf, out)),
+        Err(WordError::Usage) => Status::Usage,
+        Err(WordError::Memory) => Status::Memory,
+    }
+}
+
+/// Runs the command that the words stand for, which don't include the program's name: it loads from `shelf`, writes
+/// to `out` or stores on `shelf`, and puts the line of `fault_text` to `diag` where the status isn't `Ok`. The line
+/// takes no memory.
+pub fn run<S: Shelf, K: Sink, D: Sink>(
+    alloc: Global,
+    words: &[String],
+    shelf: &mut S,
+    out: &mut K,
+    diag: &mut D,
+) -> Status
+    // The words are no command, and no device was touched but for the line.
+    ensures usage { (result ≡ Status.Usage) ↔ (command_of (map string_bytes words.now) ≡ None) }
+    ensures no_command { command_of (map string_bytes words.now) ≡ None →
+        (S.state shelf.new ≡ S.state shelf.old) × (K.state out.new ≡ K.state out.old) }
+
+    // Each status has its cause, and says what was written.
+    ensures ends { (command : _) → command_of (map string_bytes words.now) ≡ Some command →
+        Ends (plan_of command).target (plan_of command).script
+        (S.state shelf.old) (S.state shelf.new) (K.state out.old) (K.state out.new) result }
+
+    // A file that the words alone name is the one at which the shelf failed, also where it tells nothing.
+    ensures named { (command : _) (file : File) → command_of (map string_bytes words.now) ≡ Some command → result ≡ Status.ReadFault file →
+        NamesFile command file (S.state shelf.new).failed }
+
+    // Over told files one thing comes of the words; and without a fault the run ends with it, or for want of memory.
+    ensures some_outcome { (files : Files) → ¬ ((outcome : Outcome) → ¬ IsOutcome files (command_of (map string_bytes words.now)) outcome) }
+    ensures one_outcome { (files : Files) (outcome other : Outcome) →
+        IsOutcome files (command_of (map string_bytes words.now)) outcome →
+        IsOutcome files (command_of (map string_bytes words.now)) other → outcome ≡ other }
+    ensures outcome { (files : Files) (outcome : Outcome) → (S.state shelf.old).files ≡ Some files →
+        IsOutcome files (command_of (map string_bytes words.now)) outcome →
+        NoFault (S.state shelf.old) (S.state shelf.new) (K.state out.old) (K.state out.new) →
+        (result ≡ status_of outcome) ⊎ (result ≡ Status.Memory) }
+
+    // `direct` writes the direct graph of well-formed files.
+    ensures direct { (base folder : List ℕ) (files : Files) (schema_bytes table_bytes : List ℕ) (table : TextTable) (rows : List (List (List ℕ))) →
+        command_of (map string_bytes words.now) ≡ Some (Direct base folder) → (S.state shelf.old).files ≡ Some files →
+        IsTrue (is_base base) →
+        HoldsFile files (schema_file folder) schema_bytes → IsFirstSchema schema_bytes table →
+        HoldsFile files (table_file folder table.name) table_bytes → IsFirstRows table table_bytes rows →
+        WritesGraph base table rows (S.state shelf.old) (S.state shelf.new) (K.state out.old) (K.state out.new) result }
+
+    // The line tells how the run ended.
+    ensures line { Tells result (D.state diag.old) (D.state diag.new) }
+{
+    let status = decide(alloc, words, shelf, out);
+    tell(&status, diag);
+    status
+}

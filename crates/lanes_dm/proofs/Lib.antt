@@ -1,0 +1,4 @@
+pub mod Masks
+pub mod Searches
+pub mod Sets
+pub mod Tables

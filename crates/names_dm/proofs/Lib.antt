@@ -1,0 +1,19 @@
+mod Ascii
+mod Cuts
+mod Escapes
+mod Keys
+mod Lists
+mod Marks
+mod NamesApart
+mod NamingInstance
+mod Parts
+mod Read
+mod ReadBack
+mod RowLabels
+mod SafeForms
+mod TextLists
+mod Told
+mod Utf8
+mod VariableLaws
+mod Words
+pub mod Yielded

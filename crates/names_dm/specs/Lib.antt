@@ -1,0 +1,14 @@
+pub mod Apart
+pub mod Characters
+pub mod Decided
+pub mod Facts
+pub mod IriSafe
+pub mod Literals
+pub mod Meanings
+pub mod Names
+pub mod Namespaces
+pub mod Reading
+pub mod Rows
+pub mod Statements
+pub mod Terminals
+pub mod Variables

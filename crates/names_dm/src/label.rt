@@ -1,0 +1,137 @@
+ghost use Rattle.std.specs.Prelude.{◌≡◌, ◌↔◌, ◌++◌, ◌∷◌, IfOk, IfSome, IsSome, IsTrue, chars, encode_utf8_all};
+ghost use Rattle.std.specs.Fmt.{decimal};
+ghost use Rattle.names_dm.specs.Terminals.{begins_label, continues_label, is_label, is_pn, is_pn_base, is_pn_u};
+
+use crate::characters::{between, is_ascii_digit, is_ascii_letter};
+use std::alloc::{AllocError, Global};
+use std::marker::Model;
+use value_dm::{Text, TryCopy};
+
+/// The label of a blank node, as it stands after `_:` (RDF 1.1 N-Triples, section 7). Contracts see its characters.
+#[derive(PartialEq, Eq, Drop)]
+pub struct Label {
+    text: Text,
+}
+
+impl Model for Label {
+    ghost use Rattle.std.specs.Prelude.{List, ℕ, IsTrue};
+    ghost use Rattle.names_dm.specs.Terminals.{is_label};
+
+    ghost Value = { List ℕ };
+
+    ghost view = { λ label. label.text };
+
+    ghost invariant = { λ label. IsTrue (is_label label.text) };
+
+    ghost inverse = { λ text. record { text = text } };
+}
+
+// PN_CHARS_BASE
+fn is_pn_base(c: u32) -> bool
+    ensures { result ≡ is_pn_base c }
+{
+    is_ascii_letter(c)
+        | between(0xC0, 0xD6, c)
+        | between(0xD8, 0xF6, c)
+        | between(0xF8, 0x2FF, c)
+        | between(0x370, 0x37D, c)
+        | between(0x37F, 0x1FFF, c)
+        | between(0x200C, 0x200D, c)
+        | between(0x2070, 0x218F, c)
+        | between(0x2C00, 0x2FEF, c)
+        | between(0x3001, 0xD7FF, c)
+        | between(0xF900, 0xFDCF, c)
+        | between(0xFDF0, 0xFFFD, c)
+        | between(0x10000, 0xEFFFF, c)
+}
+
+// PN_CHARS_U
+fn is_pn_u(c: u32) -> bool
+    ensures { result ≡ is_pn_u c }
+{
+    is_pn_base(c) | (c == 95) | (c == 58)
+}
+
+// PN_CHARS
+fn is_pn(c: u32) -> bool
+    ensures { result ≡ is_pn c }
+{
+    is_pn_u(c)
+        | (c == 45)
+        | is_ascii_digit(c)
+        | (c == 0xB7)
+        | between(0x300, 0x36F, c)
+        | between(0x203F, 0x2040, c)
+}
+
+#[tactic(auto, unfolding(crate::specs::Terminals::begins_label))]
+fn begins_label(c: u32) -> bool
+    ensures { result ≡ begins_label c }
+{
+    is_pn_u(c) | is_ascii_digit(c)
+}
+
+#[tactic(auto, unfolding(crate::specs::Terminals::continues_label))]
+fn continues_label(c: u32) -> bool
+    ensures { result ≡ continues_label c }
+{
+    is_pn(c) | (c == 46)
+}
+
+// Whether the text is a label's.
+fn is_label(text: &Text) -> bool
+    ensures { result ≡ is_label text.now }
+{
+    let mut good = true;
+    let mut begun = false;
+    let mut last = 46;
+    for c in text.as_str().chars() {
+        good &= (begun & continues_label(c as u32)) | (!begun & begins_label(c as u32));
+        begun = true;
+        last = c as u32;
+    }
+    good & (last != 46)
+}
+
+impl Label {
+    /// The label of this text, None exactly where BLANK_NODE_LABEL has no such label: it begins with a letter, a digit,
+    /// `_` or `:`, goes on with these, hyphens and dots, and doesn't end in a dot.
+    pub fn new(text: Text) -> Option<Label>
+        ensures grammar { IsSome result ↔ IsTrue (is_label text) }
+        ensures text { IfSome result (λ label. label ≡ text) }
+    {
+        if is_label(&text) {
+            Some(Label { text })
+        } else {
+            None
+        }
+    }
+
+    /// The characters.
+    pub fn as_str(&self) -> &str
+        ensures bytes { result.now ≡ encode_utf8_all self.now }
+        ensures chars { chars result.now ≡ self.now }
+        ensures grammar { IsTrue (is_label self.now) }
+    {
+        self.text.as_str()
+    }
+}
+
+impl TryCopy for Label {
+    fn copy(&self, alloc: Global) -> Result<Label, AllocError> {
+        Ok(Label {
+            text: self.text.copy(alloc)?,
+        })
+    }
+}
+
+/// The label `t<table>r<row>` of a row's blank node, the numbers written as they are given. Refused for want of memory
+/// alone.
+pub fn row_label(alloc: Global, table: u64, row: u64) -> Result<Label, AllocError>
+    ensures { IfOk result (λ label. label ≡ 116 ∷ decimal table ++ 114 ∷ decimal row) }
+{
+    let text = format!(in alloc; "t{table}r{row}")?;
+    Ok(Label {
+        text: Text::from_str(alloc, text.as_str())?,
+    })
+}
