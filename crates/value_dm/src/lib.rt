@@ -41,3 +41,6 @@ pub use writing::field_text;
 
 /// Texts in order.
 pub type Names = Sequence<Text>;
+
+#[cfg(test)]
+mod tests;
