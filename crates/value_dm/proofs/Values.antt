@@ -6,6 +6,10 @@ use Rattle.value_dm.specs.Lawful.{IsLawful}
 use Rattle.value_dm.specs.Lexical.{lexical_form}
 use Rattle.value_dm.specs.Spelling.{SpellsBinary, SpellsBoolean, SpellsValue, IsInAnyCase}
 use Rattle.value_dm.specs.declared.calendar.Date.{Date}
+use Rattle.std.specs.Prelude.{Option, Some, None}
+use Rattle.value_dm.specs.Spelling.{Spells, unescaped}
+use Rattle.value_dm.specs.declared.kind.Kind.{Kind}
+use Rattle.value_dm.specs.declared.mode.NullMode.{NullMode}
 use Rattle.value_dm.specs.declared.value.Value.{Value}
 use Rattle.value_dm.specs.declared.value.Value.TheVariants as value
 use Rattle.value_dm.specs.declared.kind.Kind.TheVariants as kind
@@ -70,3 +74,10 @@ no_bytes text v e none h = absurd (cc e)
 
 pub form_spells : (text : List ℕ) (v : Value) → IsLawful v → lexical_form v ≡ text → SpellsValue text v
 form_spells text v lawful e = let P : List ℕ → Type 0 = λ x. SpellsValue x v in subst P e (lexical_form_spells v lawful)
+
+-- a field stands for one cell alone
+pub spells_one : (k : Kind) (field : List ℕ) (m : NullMode) (c d : Option Value) → Spells k field m c → Spells k field m d → c ≡ d
+spells_one k field m None None g h = refl
+spells_one k field m None (Some v) g h = absurd (h.0 g)
+spells_one k field m (Some v) None g h = absurd (g.0 h)
+spells_one k field m (Some v) (Some w) g h = ap Some (value_one (unescaped k field) v w (g.1 ∙ sym h.1) g.2 h.2)

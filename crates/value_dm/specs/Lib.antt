@@ -9,4 +9,5 @@ pub mod Order
 pub mod Reading
 pub mod Sameness
 pub mod Spelling
+pub mod ValueEquality
 pub mod Written

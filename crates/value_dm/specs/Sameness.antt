@@ -39,7 +39,7 @@ time_same a b h m s n =
 pub date_time_same : (a b : DateTime) → a.date ≡ b.date → a.time ≡ b.time → a ≡ b
 date_time_same a b d t = λ i. record { date = d i; time = t i }
 
-and_parts : (a b : Bool) → (a && b) ≡ true → (a ≡ true) × (b ≡ true)
+pub and_parts : (a b : Bool) → (a && b) ≡ true → (a ≡ true) × (b ≡ true)
 and_parts true b h = (refl, h)
 and_parts false b h = absurd (false≢true h)
 

@@ -52,7 +52,8 @@ pub record IsNumberText (field : List ℕ) (negative : Bool) (whole fraction : L
   pub is_numeral : IsNumeral 10 (whole ++ fraction)
 
 -- The sign and the digits write the decimal: as whole numbers with a count of fraction digits both are one number, so
--- they are equal at the sum of both counts.
+-- they are equal at the sum of both counts. That the decimal has at most 38 digits is a law of its type: they are those
+-- that are left without the zeros before the point and those at the end of the fraction.
 pub record IsSameNumber (negative : Bool) (whole fraction : List ℕ) (d : Decimal) : Type 0 where
   pub size : digits_value 10 (whole ++ fraction) * 10 ^ d.scale ≡ unsigned_abs d.coefficient * 10 ^ length fraction
   pub side : d.coefficient ≡ signed negative (unsigned_abs d.coefficient)

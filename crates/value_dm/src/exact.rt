@@ -6,6 +6,7 @@ use crate::decimal::Decimal;
 use crate::kind::Kind;
 use crate::sequence::Sequence;
 use crate::text::Text;
+use crate::value::Value;
 
 /// A type whose `==` says exactly whether two values are the same for contracts.
 pub trait ExactEq: Eq {
@@ -65,6 +66,12 @@ impl ExactEq for DateTime {
 
     ghost decides = { date_times_decide {f = ⟦<Date as PartialEq>⟧.eq} {g = ⟦<Time as PartialEq>⟧.eq}
         (Prim.search (rules, date_same)) (Prim.search (rules, time_same)) };
+}
+
+impl ExactEq for Value {
+    ghost use Rattle.value_dm.specs.ValueEquality.{values_decide};
+
+    ghost decides = { values_decide };
 }
 
 impl<T: ExactEq> ExactEq for Option<T> {

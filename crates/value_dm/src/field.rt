@@ -18,6 +18,8 @@ use std::alloc::Global;
 pub fn read_field(alloc: Global, kind: Kind, text: &str, mode: NullMode) -> Result<Cell, ValueError>
     ensures ok { IfOk result (Spells kind (chars text.now) mode) }
     ensures bad { result ≡ Err ValueError.BadValue → (cell : Option AnyValue) → ¬ Spells kind (chars text.now) mode cell }
+    ensures one { (first second : Option AnyValue) → Spells kind (chars text.now) mode first →
+        Spells kind (chars text.now) mode second → first ≡ second }
 {
     if is_null(kind, text, mode) {
         return Ok(None);

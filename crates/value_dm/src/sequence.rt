@@ -4,9 +4,11 @@ use crate::copies::TryCopy;
 use std::alloc::{AllocError, Global};
 use std::convert::From;
 use std::marker::Model;
+use thiserror::Error;
 
 /// An item that was given back for want of memory.
-#[derive(Drop)]
+#[derive(Debug, Drop, Error)]
+#[error("out of memory")]
 pub struct AllocFailed<T> {
     pub item: T,
 }
