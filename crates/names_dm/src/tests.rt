@@ -23,7 +23,8 @@ fn names(alloc: Global, one: &str, other: &str) -> Result<Names, AllocError> {
 }
 
 // A name, and after `|` its safe form, on each line.
-const FORMS: &str = "a b/c|a%20b%2Fc
+fn forms() -> &'static str {
+    "a b/c|a%20b%2Fc
 é|é
 x;y=z|x%3By%3Dz
 100%|100%25
@@ -38,78 +39,110 @@ az AZ-._~|az%20AZ-._~
 \u{1FFFD}\u{1FFFE}|\u{1FFFD}%F0%9F%BF%BE
 \u{DFFFD}\u{E0FFF}|\u{DFFFD}%F3%A0%BF%BF
 \u{E1000}\u{EFFFD}|\u{E1000}\u{EFFFD}
-\u{EFFFE}\u{10FFFF}|%F3%AF%BF%BE%F4%8F%BF%BF";
+\u{EFFFE}\u{10FFFF}|%F3%AF%BF%BE%F4%8F%BF%BF"
+}
 
-const UNSAFE: &str = "%41|%2f|%C3%A9|\u{E000}|%|%FF|a b";
+fn unsafe_forms() -> &'static str {
+    "%41|%2f|%C3%A9|\u{E000}|%|%FF|a b"
+}
 
 #[test]
 fn safe_forms(rt: HostRuntime) -> Result<(), Fail> {
     let alloc = rt.alloc();
-    for line in FORMS.lines() {
+    for line in forms().lines() {
         let (name, form) = line.split_once('|').ok_or("no form")?;
         assert_eq!(rt; safe(alloc, name)?.as_str(), form);
         assert_eq!(rt; unsafe_of(alloc, form)?.as_str(), name);
     }
-    for form in UNSAFE.split('|') {
+    for form in unsafe_forms().split('|') {
         assert!(rt; matches!(unsafe_of(alloc, form), Err(SafeError::NotSafe)));
     }
     Ok(())
 }
 
-const LABELS: &str =
-    "a _9 9 : z.1 z..1 a- a\u{B7} \u{C0}\u{D6}\u{D8}\u{F6}\u{F8}\u{2FF} a\u{300}\u{36F}\u{370}\u{37D}\u{37F}\u{1FFF} \u{200C}\u{200D} a\u{203F}\u{2040} \u{2070}\u{218F}\u{2C00}\u{2FEF}\u{3001}\u{D7FF} \u{F900}\u{FDCF}\u{FDF0}\u{FFFD} \u{10000}\u{EFFFF}";
+fn good_labels() -> &'static str {
+    "a _9 9 : z.1 z..1 a- a\u{B7} \u{C0}\u{D6}\u{D8}\u{F6}\u{F8}\u{2FF} a\u{300}\u{36F}\u{370}\u{37D}\u{37F}\u{1FFF} \u{200C}\u{200D} a\u{203F}\u{2040} \u{2070}\u{218F}\u{2C00}\u{2FEF}\u{3001}\u{D7FF} \u{F900}\u{FDCF}\u{FDF0}\u{FFFD} \u{10000}\u{EFFFF}"
+}
 
-const NO_LABELS: &str =
-    "|-a|z.|.z|\u{B7}|\u{BF}|\u{D7}|\u{F7}|\u{300}|\u{36F}|\u{37E}|\u{2000}|\u{200B}|\u{200E}|\u{203F}|\u{2040}|\u{206F}|\u{2190}|\u{2BFF}|\u{2FF0}|\u{3000}|\u{E000}|\u{FDD0}|\u{FFFE}|\u{F0000}";
+fn bad_labels() -> &'static str {
+    "|-a|z.|.z|\u{B7}|\u{BF}|\u{D7}|\u{F7}|\u{300}|\u{36F}|\u{37E}|\u{2000}|\u{200B}|\u{200E}|\u{203F}|\u{2040}|\u{206F}|\u{2190}|\u{2BFF}|\u{2FF0}|\u{3000}|\u{E000}|\u{FDD0}|\u{FFFE}|\u{F0000}"
+}
 
 #[test]
 fn labels(rt: HostRuntime) -> Result<(), Fail> {
     let alloc = rt.alloc();
-    for letters in LABELS.split(' ') {
+    for letters in good_labels().split(' ') {
         assert!(rt; Label::new(text(alloc, letters)?).is_some(), "{letters}");
     }
-    for letters in NO_LABELS.split('|') {
+    for letters in bad_labels().split('|') {
         assert!(rt; Label::new(text(alloc, letters)?).is_none(), "{letters}");
     }
     Ok(())
 }
 
+fn good_iris() -> &'static str {
+    "|a!é|\u{7F}"
+}
+
+fn bad_iris() -> &'static str {
+    "a\u{20}|a<|a\\|\u{0}"
+}
+
+fn good_tags() -> &'static str {
+    "en en-GB en-1-a9"
+}
+
+fn bad_tags() -> &'static str {
+    "|e1|en-|-en|en--a|é"
+}
+
+fn good_variables() -> &'static str {
+    "ID _5F 9"
+}
+
+fn bad_variables() -> &'static str {
+    "|a-b|é"
+}
+
 #[test]
 fn grammars(rt: HostRuntime) -> Result<(), Fail> {
     let alloc = rt.alloc();
-    for letters in "|a!é|\u{7F}".split('|') {
+    for letters in good_iris().split('|') {
         assert!(rt; Iri::new(text(alloc, letters)?).is_some(), "{letters}");
     }
-    for letters in "a\u{20}|a<|a\\|\u{0}".split('|') {
+    for letters in bad_iris().split('|') {
         assert!(rt; Iri::new(text(alloc, letters)?).is_none(), "{letters}");
     }
-    for letters in "en en-GB en-1-a9".split(' ') {
+    for letters in good_tags().split(' ') {
         assert!(rt; Tag::new(text(alloc, letters)?).is_some(), "{letters}");
     }
-    for letters in "|e1|en-|-en|en--a|é".split('|') {
+    for letters in bad_tags().split('|') {
         assert!(rt; Tag::new(text(alloc, letters)?).is_none(), "{letters}");
     }
-    for letters in "ID _5F 9".split(' ') {
+    for letters in good_variables().split(' ') {
         assert!(rt; Var::new(text(alloc, letters)?).is_some(), "{letters}");
     }
-    for letters in "|a-b|é".split('|') {
+    for letters in bad_variables().split('|') {
         assert!(rt; Var::new(text(alloc, letters)?).is_none(), "{letters}");
     }
     Ok(())
 }
 
-const BASES: &str = "http://foo.example/DB/ x http://a/%4 http://www.w3.org/2001/XMLSchema/";
+fn good_bases() -> &'static str {
+    "http://foo.example/DB/ x http://a/%4 http://www.w3.org/2001/XMLSchema/"
+}
 
-const NO_BASES: &str =
-    "|h|http://a b/|http://www.w3.org/2001/XMLSchema|http://www.w3.org/2001/XMLSchema#|http://www.w3.org/2001/XMLSchema#x|http://www.w3.org/2002/07/|http://www.w3.org/1999/02/22-rdf-syntax-ns#a|http://www.w3.org/2000/01/rdf-schema";
+fn bad_bases() -> &'static str {
+    "|h|http://a b/|http://www.w3.org/2001/XMLSchema|http://www.w3.org/2001/XMLSchema#|http://www.w3.org/2001/XMLSchema#x|http://www.w3.org/2002/07/|http://www.w3.org/1999/02/22-rdf-syntax-ns#a|http://www.w3.org/2000/01/rdf-schema"
+}
 
 #[test]
 fn bases(rt: HostRuntime) -> Result<(), Fail> {
     let alloc = rt.alloc();
-    for letters in BASES.split(' ') {
+    for letters in good_bases().split(' ') {
         assert!(rt; Base::new(text(alloc, letters)?).is_ok(), "{letters}");
     }
-    for letters in NO_BASES.split('|') {
+    for letters in bad_bases().split('|') {
         assert!(rt; Base::new(text(alloc, letters)?).is_err(), "{letters}");
     }
     Ok(())
@@ -181,41 +214,45 @@ fn iri(alloc: Global, letters: &str) -> Result<Iri, Fail> {
     Ok(Iri::new(text(alloc, letters)?).ok_or("no IRI")?)
 }
 
-const NO_TABLES: &str =
-    "http://foo.example/DB/ http://foo.example/DB/\u{FEFF}T http://foo.example/DB/%41 http://foo.example/DB/T/id=1 http://foo.example/T http://foo.example/DB/T#a";
+fn no_tables() -> &'static str {
+    "http://foo.example/DB/ http://foo.example/DB/\u{FEFF}T http://foo.example/DB/%41 http://foo.example/DB/T/id=1 http://foo.example/T http://foo.example/DB/T#a"
+}
 
-const NO_COLUMNS: &str =
-    "http://foo.example/DB/T# http://foo.example/DB/#a http://foo.example/DB/T#a#b http://foo.example/DB/T#%2f http://foo.example/DB/T#\u{FEFF} http://foo.example/DB/T";
+fn no_columns() -> &'static str {
+    "http://foo.example/DB/T# http://foo.example/DB/#a http://foo.example/DB/T#a#b http://foo.example/DB/T#%2f http://foo.example/DB/T#\u{FEFF} http://foo.example/DB/T"
+}
 
-const NO_REFERENCES: &str =
-    "http://foo.example/DB/T#ref- http://foo.example/DB/T#ref-a; http://foo.example/DB/T#a http://foo.example/DB/T#ref-a=b";
+fn no_references() -> &'static str {
+    "http://foo.example/DB/T#ref- http://foo.example/DB/T#ref-a; http://foo.example/DB/T#a http://foo.example/DB/T#ref-a=b"
+}
 
-const NO_RELATIONS: &str =
-    "http://foo.example/DB/T#rel-a=b http://foo.example/DB/T#rel-a=b;c= http://foo.example/DB/T#rel-a=b;c=d;e=f http://foo.example/DB/T#ref-a;b";
+fn no_relations() -> &'static str {
+    "http://foo.example/DB/T#rel-a=b http://foo.example/DB/T#rel-a=b;c= http://foo.example/DB/T#rel-a=b;c=d;e=f http://foo.example/DB/T#ref-a;b"
+}
 
 #[test]
 fn other_iris(rt: HostRuntime) -> Result<(), Fail> {
     let alloc = rt.alloc();
     let base = base(alloc)?.ok_or("no base")?;
-    for letters in NO_TABLES.split(' ') {
+    for letters in no_tables().split(' ') {
         assert!(rt;
             read_table_iri(alloc, &base, &iri(alloc, letters)?)?.is_none(),
             "{letters}"
         );
     }
-    for letters in NO_COLUMNS.split(' ') {
+    for letters in no_columns().split(' ') {
         assert!(rt;
             read_column_iri(alloc, &base, &iri(alloc, letters)?)?.is_none(),
             "{letters}"
         );
     }
-    for letters in NO_REFERENCES.split(' ') {
+    for letters in no_references().split(' ') {
         assert!(rt;
             read_ref_iri(alloc, &base, &iri(alloc, letters)?)?.is_none(),
             "{letters}"
         );
     }
-    for letters in NO_RELATIONS.split(' ') {
+    for letters in no_relations().split(' ') {
         assert!(rt;
             read_rel_iri(alloc, &base, &iri(alloc, letters)?)?.is_none(),
             "{letters}"
