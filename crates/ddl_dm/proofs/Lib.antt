@@ -1,0 +1,5 @@
+pub mod Growth
+pub mod SchemaLaws
+pub mod Writing
+pub mod BackSchema
+pub mod BackTokens

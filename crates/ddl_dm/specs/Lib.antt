@@ -1,0 +1,4 @@
+pub mod Meaning
+pub mod Building
+pub mod Schema
+pub mod Canonical
