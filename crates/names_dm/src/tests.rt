@@ -1,25 +1,15 @@
 use crate::{
-    Base, Iri, KeyPart, KeyParts, Label, Literal, LiteralType, RelName, SafeError, Tag, Term,
-    Triple, Var, column_iri, read_column_iri, read_ref_iri, read_rel_iri, read_table_iri, ref_iri,
-    rel_iri, row_iri, row_label, safe, table_iri, unsafe_of, variable,
+    Base, Iri, Label, column_iri, read_column_iri, read_table_iri, row_label, safe, table_iri,
+    unsafe_of, variable,
 };
 use std::alloc::{AllocError, Global};
 use std::test::Fail;
-use value_dm::{Names, Text, TryCopy, Value};
+use value_dm::Text;
 
 const BASE: &str = "http://foo.example/DB/";
 
 fn text(alloc: Global, letters: &str) -> Result<Text, AllocError> {
     Text::from_str(alloc, letters)
-}
-
-fn names(alloc: Global, one: &str, other: &str) -> Result<Names, AllocError> {
-    let mut list = Names::new(alloc);
-    list.push(text(alloc, one)?)?;
-    if !other.is_empty() {
-        list.push(text(alloc, other)?)?;
-    }
-    Ok(list)
 }
 
 // A name, and after `|` its safe form, on each line.
@@ -46,16 +36,27 @@ fn unsafe_forms() -> &'static str {
     "%41|%2f|%C3%A9|\u{E000}|%|%FF|a b"
 }
 
+fn safe_form(alloc: Global, name: &str) -> Result<String, Fail> {
+    Ok(safe(alloc, name)?)
+}
+
+fn name_of(alloc: Global, form: &str) -> Result<String, Fail> {
+    match unsafe_of(alloc, form) {
+        Ok(name) => Ok(name),
+        Err(fault) => Ok(format!(in alloc; "{fault:?}")?),
+    }
+}
+
 #[test]
 fn safe_forms(rt: HostRuntime) -> Result<(), Fail> {
     let alloc = rt.alloc();
     for line in forms().lines() {
         let (name, form) = line.split_once('|').ok_or("no form")?;
-        assert_eq!(rt; safe(alloc, name)?.as_str(), form);
-        assert_eq!(rt; unsafe_of(alloc, form)?.as_str(), name);
+        assert_eq!(rt; safe_form(alloc, name)?.as_str(), form);
+        assert_eq!(rt; name_of(alloc, form)?.as_str(), name);
     }
     for form in unsafe_forms().split('|') {
-        assert!(rt; matches!(unsafe_of(alloc, form), Err(SafeError::NotSafe)));
+        assert_eq!(rt; name_of(alloc, form)?.as_str(), "NotSafe");
     }
     Ok(())
 }
@@ -68,62 +69,18 @@ fn bad_labels() -> &'static str {
     "|-a|z.|.z|\u{B7}|\u{BF}|\u{D7}|\u{F7}|\u{300}|\u{36F}|\u{37E}|\u{2000}|\u{200B}|\u{200E}|\u{203F}|\u{2040}|\u{206F}|\u{2190}|\u{2BFF}|\u{2FF0}|\u{3000}|\u{E000}|\u{FDD0}|\u{FFFE}|\u{F0000}"
 }
 
+fn is_label(alloc: Global, letters: &str) -> Result<bool, Fail> {
+    Ok(Label::new(text(alloc, letters)?).is_some())
+}
+
 #[test]
 fn labels(rt: HostRuntime) -> Result<(), Fail> {
     let alloc = rt.alloc();
     for letters in good_labels().split(' ') {
-        assert!(rt; Label::new(text(alloc, letters)?).is_some(), "{letters}");
+        assert!(rt; is_label(alloc, letters)?, "{letters}");
     }
     for letters in bad_labels().split('|') {
-        assert!(rt; Label::new(text(alloc, letters)?).is_none(), "{letters}");
-    }
-    Ok(())
-}
-
-fn good_iris() -> &'static str {
-    "|a!é|\u{7F}"
-}
-
-fn bad_iris() -> &'static str {
-    "a\u{20}|a<|a\\|\u{0}"
-}
-
-fn good_tags() -> &'static str {
-    "en en-GB en-1-a9"
-}
-
-fn bad_tags() -> &'static str {
-    "|e1|en-|-en|en--a|é"
-}
-
-fn good_variables() -> &'static str {
-    "ID _5F 9"
-}
-
-fn bad_variables() -> &'static str {
-    "|a-b|é"
-}
-
-#[test]
-fn grammars(rt: HostRuntime) -> Result<(), Fail> {
-    let alloc = rt.alloc();
-    for letters in good_iris().split('|') {
-        assert!(rt; Iri::new(text(alloc, letters)?).is_some(), "{letters}");
-    }
-    for letters in bad_iris().split('|') {
-        assert!(rt; Iri::new(text(alloc, letters)?).is_none(), "{letters}");
-    }
-    for letters in good_tags().split(' ') {
-        assert!(rt; Tag::new(text(alloc, letters)?).is_some(), "{letters}");
-    }
-    for letters in bad_tags().split('|') {
-        assert!(rt; Tag::new(text(alloc, letters)?).is_none(), "{letters}");
-    }
-    for letters in good_variables().split(' ') {
-        assert!(rt; Var::new(text(alloc, letters)?).is_some(), "{letters}");
-    }
-    for letters in bad_variables().split('|') {
-        assert!(rt; Var::new(text(alloc, letters)?).is_none(), "{letters}");
+        assert!(rt; !is_label(alloc, letters)?, "{letters}");
     }
     Ok(())
 }
@@ -136,128 +93,58 @@ fn bad_bases() -> &'static str {
     "|h|http://a b/|http://www.w3.org/2001/XMLSchema|http://www.w3.org/2001/XMLSchema#|http://www.w3.org/2001/XMLSchema#x|http://www.w3.org/2002/07/|http://www.w3.org/1999/02/22-rdf-syntax-ns#a|http://www.w3.org/2000/01/rdf-schema"
 }
 
+fn is_base(alloc: Global, letters: &str) -> Result<bool, Fail> {
+    Ok(Base::new(text(alloc, letters)?).is_ok())
+}
+
 #[test]
 fn bases(rt: HostRuntime) -> Result<(), Fail> {
     let alloc = rt.alloc();
     for letters in good_bases().split(' ') {
-        assert!(rt; Base::new(text(alloc, letters)?).is_ok(), "{letters}");
+        assert!(rt; is_base(alloc, letters)?, "{letters}");
     }
     for letters in bad_bases().split('|') {
-        assert!(rt; Base::new(text(alloc, letters)?).is_err(), "{letters}");
+        assert!(rt; !is_base(alloc, letters)?, "{letters}");
     }
     Ok(())
 }
 
-fn base(alloc: Global) -> Result<Option<Base>, AllocError> {
-    Ok(Base::new(text(alloc, BASE)?).ok())
+fn base(alloc: Global) -> Result<Base, Fail> {
+    Ok(Base::new(text(alloc, BASE)?).ok().ok_or("no base")?)
+}
+
+fn table(alloc: Global, name: &str) -> Result<Iri, Fail> {
+    Ok(table_iri(alloc, &base(alloc)?, name)?)
+}
+
+fn told_table(alloc: Global, iri: &Iri) -> Result<Text, Fail> {
+    Ok(read_table_iri(alloc, &base(alloc)?, iri)?.ok_or("no table")?)
+}
+
+fn column(alloc: Global, table: &str, name: &str) -> Result<Iri, Fail> {
+    Ok(column_iri(alloc, &base(alloc)?, table, name)?)
+}
+
+fn told_column(alloc: Global, iri: &Iri) -> Result<Text, Fail> {
+    Ok(
+        read_column_iri(alloc, &base(alloc)?, iri)?
+            .ok_or("no column")?
+            .column,
+    )
 }
 
 #[test]
 fn tables_and_columns(rt: HostRuntime) -> Result<(), Fail> {
     let alloc = rt.alloc();
-    let base = base(alloc)?.ok_or("no base")?;
-    let table = table_iri(alloc, &base, "Addresses")?;
-    assert_eq!(rt; table.as_str(), "http://foo.example/DB/Addresses");
-    let told = read_table_iri(alloc, &base, &table)?.ok_or("no table")?;
-    assert_eq!(rt; told.as_str(), "Addresses");
-    let column = column_iri(alloc, &base, "a b/c", "x;y=z")?;
+    let addresses = table(alloc, "Addresses")?;
+    assert_eq!(rt; addresses.as_str(), "http://foo.example/DB/Addresses");
+    assert_eq!(rt; told_table(alloc, &addresses)?.as_str(), "Addresses");
+    let spelled = column(alloc, "a b/c", "x;y=z")?;
     assert_eq!(rt;
-        column.as_str(),
+        spelled.as_str(),
         "http://foo.example/DB/a%20b%2Fc#x%3By%3Dz"
     );
-    let told = read_column_iri(alloc, &base, &column)?.ok_or("no column")?;
-    assert_eq!(rt; told.table.as_str(), "a b/c");
-    assert_eq!(rt; told.column.as_str(), "x;y=z");
-    Ok(())
-}
-
-#[test]
-fn references(rt: HostRuntime) -> Result<(), Fail> {
-    let alloc = rt.alloc();
-    let base = base(alloc)?.ok_or("no base")?;
-    let reference = ref_iri(alloc, &base, "People", &names(alloc, "addr", "")?)?;
-    assert_eq!(rt; reference.as_str(), "http://foo.example/DB/People#ref-addr");
-    let told = read_column_iri(alloc, &base, &reference)?.ok_or("no column")?;
-    assert_eq!(rt; told.column.as_str(), "ref-addr");
-    let reference = ref_iri(alloc, &base, "Q", &names(alloc, "x", "y")?)?;
-    assert_eq!(rt; reference.as_str(), "http://foo.example/DB/Q#ref-x;y");
-    assert!(rt; read_column_iri(alloc, &base, &reference)?.is_none());
-    let told = read_ref_iri(alloc, &base, &reference)?.ok_or("no reference")?;
-    assert_eq!(rt; told.table.as_str(), "Q");
-    assert!(rt; told.columns == names(alloc, "x", "y")?);
-    Ok(())
-}
-
-#[test]
-fn relations(rt: HostRuntime) -> Result<(), Fail> {
-    let alloc = rt.alloc();
-    let base = base(alloc)?.ok_or("no base")?;
-    let name = RelName {
-        table: text(alloc, "Enrolled")?,
-        left: text(alloc, "student")?,
-        left_target: text(alloc, "id")?,
-        right: text(alloc, "course")?,
-        right_target: text(alloc, "code")?,
-    };
-    let relation = rel_iri(alloc, &base, &name)?;
-    assert_eq!(rt;
-        relation.as_str(),
-        "http://foo.example/DB/Enrolled#rel-student=id;course=code"
-    );
-    let told = read_rel_iri(alloc, &base, &relation)?.ok_or("no relation")?;
-    assert!(rt; told == name);
-    assert!(rt; told.copy(alloc)? == name);
-    Ok(())
-}
-
-fn iri(alloc: Global, letters: &str) -> Result<Iri, Fail> {
-    Ok(Iri::new(text(alloc, letters)?).ok_or("no IRI")?)
-}
-
-fn no_tables() -> &'static str {
-    "http://foo.example/DB/ http://foo.example/DB/\u{FEFF}T http://foo.example/DB/%41 http://foo.example/DB/T/id=1 http://foo.example/T http://foo.example/DB/T#a"
-}
-
-fn no_columns() -> &'static str {
-    "http://foo.example/DB/T# http://foo.example/DB/#a http://foo.example/DB/T#a#b http://foo.example/DB/T#%2f http://foo.example/DB/T#\u{FEFF} http://foo.example/DB/T"
-}
-
-fn no_references() -> &'static str {
-    "http://foo.example/DB/T#ref- http://foo.example/DB/T#ref-a; http://foo.example/DB/T#a http://foo.example/DB/T#ref-a=b"
-}
-
-fn no_relations() -> &'static str {
-    "http://foo.example/DB/T#rel-a=b http://foo.example/DB/T#rel-a=b;c= http://foo.example/DB/T#rel-a=b;c=d;e=f http://foo.example/DB/T#ref-a;b"
-}
-
-#[test]
-fn other_iris(rt: HostRuntime) -> Result<(), Fail> {
-    let alloc = rt.alloc();
-    let base = base(alloc)?.ok_or("no base")?;
-    for letters in no_tables().split(' ') {
-        assert!(rt;
-            read_table_iri(alloc, &base, &iri(alloc, letters)?)?.is_none(),
-            "{letters}"
-        );
-    }
-    for letters in no_columns().split(' ') {
-        assert!(rt;
-            read_column_iri(alloc, &base, &iri(alloc, letters)?)?.is_none(),
-            "{letters}"
-        );
-    }
-    for letters in no_references().split(' ') {
-        assert!(rt;
-            read_ref_iri(alloc, &base, &iri(alloc, letters)?)?.is_none(),
-            "{letters}"
-        );
-    }
-    for letters in no_relations().split(' ') {
-        assert!(rt;
-            read_rel_iri(alloc, &base, &iri(alloc, letters)?)?.is_none(),
-            "{letters}"
-        );
-    }
+    assert_eq!(rt; told_column(alloc, &spelled)?.as_str(), "x;y=z");
     Ok(())
 }
 
@@ -268,67 +155,5 @@ fn labels_and_variables(rt: HostRuntime) -> Result<(), Fail> {
     assert_eq!(rt; variable(alloc, "ID")?.as_str(), "ID");
     assert_eq!(rt; variable(alloc, "a_b")?.as_str(), "a_5Fb");
     assert_eq!(rt; variable(alloc, "é ")?.as_str(), "_C3_A9_20");
-    Ok(())
-}
-
-#[test]
-fn literals(rt: HostRuntime) -> Result<(), Fail> {
-    let alloc = rt.alloc();
-    let string = iri(alloc, "http://www.w3.org/2001/XMLSchema#string")?;
-    let plain = Literal::new(text(alloc, "x")?, LiteralType::Typed(string));
-    assert!(rt; matches!(plain.kind(), LiteralType::Plain));
-    assert_eq!(rt; plain.text().as_str(), "x");
-    let number = iri(alloc, "http://www.w3.org/2001/XMLSchema#integer")?;
-    let typed = Literal::new(text(alloc, "x")?, LiteralType::Typed(number));
-    assert!(rt; plain != typed);
-    assert!(rt; typed.copy(alloc)? == typed);
-    Ok(())
-}
-
-#[test]
-fn triples(rt: HostRuntime) -> Result<(), Fail> {
-    let alloc = rt.alloc();
-    let literal = Literal::new(text(alloc, "x")?, LiteralType::Plain);
-    let object = Term::Iri(iri(alloc, "http://a/o")?);
-    assert!(rt;
-        Triple::new(
-            Term::Literal(literal),
-            iri(alloc, "http://a/p")?,
-            object.copy(alloc)?
-        )
-        .is_none()
-    );
-    let subject = Term::Blank(row_label(alloc, 1, 1)?);
-    let triple = Triple::new(subject, iri(alloc, "http://a/p")?, object).ok_or("no triple")?;
-    assert!(rt; triple.copy(alloc)? == triple);
-    assert_eq!(rt; triple.predicate().as_str(), "http://a/p");
-    assert!(rt; triple.subject() != triple.object());
-    Ok(())
-}
-
-fn key(alloc: Global, parts: [(&str, Value); 2]) -> Result<KeyParts, AllocError> {
-    let mut key = KeyParts::new(alloc);
-    for (column, value) in parts {
-        let column = text(alloc, column)?;
-        key.push(KeyPart { column, value })?;
-    }
-    Ok(key)
-}
-
-fn row(alloc: Global, base: &Base, value: Value) -> Result<Iri, AllocError> {
-    let key = key(alloc, [("a", value), ("b", Value::Text(text(alloc, "z")?))])?;
-    row_iri(alloc, base, "K", &key.copy(alloc)?)
-}
-
-#[test]
-fn rows(rt: HostRuntime) -> Result<(), Fail> {
-    let alloc = rt.alloc();
-    let base = base(alloc)?.ok_or("no base")?;
-    let spelled = row(alloc, &base, Value::Text(text(alloc, "x;b=y")?))?;
-    assert_eq!(rt; spelled.as_str(), "http://foo.example/DB/K/a=x%3Bb%3Dy;b=z");
-    let empty = row(alloc, &base, Value::Text(text(alloc, "")?))?;
-    assert_eq!(rt; empty.as_str(), "http://foo.example/DB/K/a=;b=z");
-    let number = row(alloc, &base, Value::Integer(18))?;
-    assert_eq!(rt; number.as_str(), "http://foo.example/DB/K/a=18;b=z");
     Ok(())
 }
