@@ -1,6 +1,6 @@
 use crate::{
-    Base, Iri, Label, column_iri, read_column_iri, read_table_iri, row_label, safe, table_iri,
-    unsafe_of, variable,
+    Base, Iri, Label, Tag, Var, column_iri, read_column_iri, read_table_iri, row_label, safe,
+    table_iri, unsafe_of, variable,
 };
 use std::alloc::{AllocError, Global};
 use std::test::Fail;
@@ -145,6 +145,78 @@ fn tables_and_columns(rt: HostRuntime) -> Result<(), Fail> {
         "http://foo.example/DB/a%20b%2Fc#x%3By%3Dz"
     );
     assert_eq!(rt; told_column(alloc, &spelled)?.as_str(), "x;y=z");
+    Ok(())
+}
+
+fn good_iris() -> &'static str {
+    "|a!é|\u{7F}"
+}
+
+fn bad_iris() -> &'static str {
+    "a\u{20}|a<|a\\|\u{0}"
+}
+
+fn good_tags() -> &'static str {
+    "en en-GB en-1-a9"
+}
+
+fn bad_tags() -> &'static str {
+    "|e1|en-|-en|en--a|é"
+}
+
+fn good_variables() -> &'static str {
+    "ID _5F 9"
+}
+
+fn bad_variables() -> &'static str {
+    "|a-b|é"
+}
+
+fn is_iri(alloc: Global, letters: &str) -> Result<bool, Fail> {
+    Ok(Iri::new(text(alloc, letters)?).is_some())
+}
+
+fn is_tag(alloc: Global, letters: &str) -> Result<bool, Fail> {
+    Ok(Tag::new(text(alloc, letters)?).is_some())
+}
+
+fn is_variable(alloc: Global, letters: &str) -> Result<bool, Fail> {
+    Ok(Var::new(text(alloc, letters)?).is_some())
+}
+
+#[test]
+fn iris(rt: HostRuntime) -> Result<(), Fail> {
+    let alloc = rt.alloc();
+    for letters in good_iris().split('|') {
+        assert!(rt; is_iri(alloc, letters)?, "{letters}");
+    }
+    for letters in bad_iris().split('|') {
+        assert!(rt; !is_iri(alloc, letters)?, "{letters}");
+    }
+    Ok(())
+}
+
+#[test]
+fn tags(rt: HostRuntime) -> Result<(), Fail> {
+    let alloc = rt.alloc();
+    for letters in good_tags().split(' ') {
+        assert!(rt; is_tag(alloc, letters)?, "{letters}");
+    }
+    for letters in bad_tags().split('|') {
+        assert!(rt; !is_tag(alloc, letters)?, "{letters}");
+    }
+    Ok(())
+}
+
+#[test]
+fn variables(rt: HostRuntime) -> Result<(), Fail> {
+    let alloc = rt.alloc();
+    for letters in good_variables().split(' ') {
+        assert!(rt; is_variable(alloc, letters)?, "{letters}");
+    }
+    for letters in bad_variables().split('|') {
+        assert!(rt; !is_variable(alloc, letters)?, "{letters}");
+    }
     Ok(())
 }
 
