@@ -81,6 +81,7 @@ CREATE TABLE T (a FLOAT);|UnknownType(19)
 CREATE TABLE T (a INT|Unexpected(22)
 CREATE TABLE T (a INT, a INT);|Schema(SchemaError { cause: DuplicateColumn, table: 1 })
 CREATE TABLE A (x INT, y INT, FOREIGN KEY (x, y) REFERENCES B); CREATE TABLE B (y INT PRIMARY KEY);|Schema(SchemaError { cause: NotAKey, table: 1 })
+CREATE TABLE T (a TEXT); CREATE TABLE T (a TEXT);|Schema(SchemaError { cause: DuplicateTable, table: 2 })
 /* x|BadToken(1)
 CREATE TABLE \"T|BadToken(14)
 CREATE TABLE \"\" (a INT)|BadToken(14)
@@ -113,6 +114,10 @@ fn schemas(rt: HostRuntime) -> Result<(), Fail> {
             "at {text}"
         );
     }
+    assert_eq!(rt;
+        schema_answer(alloc, b"\xff".as_slice())?.as_str(),
+        "NotUtf8(1)"
+    );
     assert_eq!(rt;
         schema_answer(alloc, b"CREATE \xff".as_slice())?.as_str(),
         "NotUtf8(8)"
