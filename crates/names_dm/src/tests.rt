@@ -1,10 +1,11 @@
 use crate::{
-    Base, Iri, Label, Tag, Var, column_iri, read_column_iri, read_table_iri, row_label, safe,
+    Base, Iri, KeyPart, KeyParts, Label, RelName, Tag, Var, column_iri, read_column_iri,
+    read_ref_iri, read_rel_iri, read_table_iri, ref_iri, rel_iri, row_iri, row_label, safe,
     table_iri, unsafe_of, variable,
 };
 use std::alloc::{AllocError, Global};
 use std::test::Fail;
-use value_dm::Text;
+use value_dm::{Names, Text, Value};
 
 const BASE: &str = "http://foo.example/DB/";
 
@@ -217,6 +218,152 @@ fn variables(rt: HostRuntime) -> Result<(), Fail> {
     for letters in bad_variables().split('|') {
         assert!(rt; !is_variable(alloc, letters)?, "{letters}");
     }
+    Ok(())
+}
+
+fn list(alloc: Global, one: &str, other: &str) -> Result<Names, AllocError> {
+    let mut names = Names::new(alloc);
+    names.push(text(alloc, one)?)?;
+    names.push(text(alloc, other)?)?;
+    Ok(names)
+}
+
+fn reference(alloc: Global, table: &str, columns: &Names) -> Result<Iri, Fail> {
+    Ok(ref_iri(alloc, &base(alloc)?, table, columns)?)
+}
+
+fn told_reference(alloc: Global, iri: &Iri) -> Result<Names, Fail> {
+    Ok(
+        read_ref_iri(alloc, &base(alloc)?, iri)?
+            .ok_or("no reference")?
+            .columns,
+    )
+}
+
+fn is_same_list(one: &Names, other: &Names) -> bool {
+    *one == *other
+}
+
+#[test]
+fn references(rt: HostRuntime) -> Result<(), Fail> {
+    let alloc = rt.alloc();
+    let columns = list(alloc, "x", "y")?;
+    let spelled = reference(alloc, "Q", &columns)?;
+    assert_eq!(rt; spelled.as_str(), "http://foo.example/DB/Q#ref-x;y");
+    assert!(rt; is_same_list(&told_reference(alloc, &spelled)?, &columns));
+    Ok(())
+}
+
+fn enrolled(alloc: Global) -> Result<RelName, AllocError> {
+    Ok(RelName {
+        table: text(alloc, "Enrolled")?,
+        left: text(alloc, "student")?,
+        left_target: text(alloc, "id")?,
+        right: text(alloc, "course")?,
+        right_target: text(alloc, "code")?,
+    })
+}
+
+fn relation(alloc: Global, name: &RelName) -> Result<Iri, Fail> {
+    Ok(rel_iri(alloc, &base(alloc)?, name)?)
+}
+
+fn told_relation(alloc: Global, iri: &Iri) -> Result<RelName, Fail> {
+    Ok(read_rel_iri(alloc, &base(alloc)?, iri)?.ok_or("no relation")?)
+}
+
+fn is_same_relation(one: &RelName, other: &RelName) -> bool {
+    *one == *other
+}
+
+#[test]
+fn relations(rt: HostRuntime) -> Result<(), Fail> {
+    let alloc = rt.alloc();
+    let name = enrolled(alloc)?;
+    let spelled = relation(alloc, &name)?;
+    assert_eq!(rt;
+        spelled.as_str(),
+        "http://foo.example/DB/Enrolled#rel-student=id;course=code"
+    );
+    assert!(rt; is_same_relation(&told_relation(alloc, &spelled)?, &name));
+    Ok(())
+}
+
+fn iri(alloc: Global, letters: &str) -> Result<Iri, Fail> {
+    Ok(Iri::new(text(alloc, letters)?).ok_or("no IRI")?)
+}
+
+fn no_tables() -> &'static str {
+    "http://foo.example/DB/ http://foo.example/DB/\u{FEFF}T http://foo.example/DB/%41 http://foo.example/DB/T/id=1 http://foo.example/T http://foo.example/DB/T#a"
+}
+
+fn no_columns() -> &'static str {
+    "http://foo.example/DB/T# http://foo.example/DB/#a http://foo.example/DB/T#a#b http://foo.example/DB/T#%2f http://foo.example/DB/T#\u{FEFF} http://foo.example/DB/T"
+}
+
+fn no_references() -> &'static str {
+    "http://foo.example/DB/T#ref- http://foo.example/DB/T#ref-a; http://foo.example/DB/T#a http://foo.example/DB/T#ref-a=b"
+}
+
+fn no_relations() -> &'static str {
+    "http://foo.example/DB/T#rel-a=b http://foo.example/DB/T#rel-a=b;c= http://foo.example/DB/T#rel-a=b;c=d;e=f http://foo.example/DB/T#ref-a;b"
+}
+
+fn is_table(alloc: Global, letters: &str) -> Result<bool, Fail> {
+    Ok(read_table_iri(alloc, &base(alloc)?, &iri(alloc, letters)?)?.is_some())
+}
+
+fn is_column(alloc: Global, letters: &str) -> Result<bool, Fail> {
+    Ok(read_column_iri(alloc, &base(alloc)?, &iri(alloc, letters)?)?.is_some())
+}
+
+fn is_reference(alloc: Global, letters: &str) -> Result<bool, Fail> {
+    Ok(read_ref_iri(alloc, &base(alloc)?, &iri(alloc, letters)?)?.is_some())
+}
+
+fn is_relation(alloc: Global, letters: &str) -> Result<bool, Fail> {
+    Ok(read_rel_iri(alloc, &base(alloc)?, &iri(alloc, letters)?)?.is_some())
+}
+
+#[test]
+fn other_iris(rt: HostRuntime) -> Result<(), Fail> {
+    let alloc = rt.alloc();
+    for letters in no_tables().split(' ') {
+        assert!(rt; !is_table(alloc, letters)?, "{letters}");
+    }
+    for letters in no_columns().split(' ') {
+        assert!(rt; !is_column(alloc, letters)?, "{letters}");
+    }
+    for letters in no_references().split(' ') {
+        assert!(rt; !is_reference(alloc, letters)?, "{letters}");
+    }
+    for letters in no_relations().split(' ') {
+        assert!(rt; !is_relation(alloc, letters)?, "{letters}");
+    }
+    Ok(())
+}
+
+fn key(alloc: Global, value: Value) -> Result<KeyParts, AllocError> {
+    let mut key = KeyParts::new(alloc);
+    let column = text(alloc, "a")?;
+    key.push(KeyPart { column, value })?;
+    let column = text(alloc, "b")?;
+    let value = Value::Text(text(alloc, "z")?);
+    key.push(KeyPart { column, value })?;
+    Ok(key)
+}
+
+fn row(alloc: Global, value: Value) -> Result<Iri, Fail> {
+    Ok(row_iri(alloc, &base(alloc)?, "K", &key(alloc, value)?)?)
+}
+
+#[test]
+fn rows(rt: HostRuntime) -> Result<(), Fail> {
+    let alloc = rt.alloc();
+    let spelled = row(alloc, Value::Text(text(alloc, "x;b=y")?))?;
+    assert_eq!(rt; spelled.as_str(), "http://foo.example/DB/K/a=x%3Bb%3Dy;b=z");
+    let number = row(alloc, Value::Integer(18))?;
+    assert_eq!(rt; number.as_str(), "http://foo.example/DB/K/a=18;b=z");
     Ok(())
 }
 
