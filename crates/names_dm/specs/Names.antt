@@ -1,5 +1,6 @@
--- The IRIs of tables, columns, references and relations: the base, and after it, as text, what names them (A Direct
--- Mapping of Relational Data to RDF, section 2.2; relations are named the same way).
+-- The IRIs of tables, columns, references and relations: the base, and after it, as text, what names them (W3C, A Direct
+-- Mapping of Relational Data to RDF: table IRI, literal property IRI, reference property IRI; relations are named in the
+-- same way).
 use Rattle.std.specs.Prelude.{ℕ, List, ◌∷◌, ◌++◌, codes, map}
 use Rattle.std.specs.List.{join_with_byte}
 use Rattle.names_dm.specs.IriSafe.{safe_form}

@@ -3,14 +3,14 @@ use Rattle.std.specs.Prelude.{ℕ, ◌||◌, ◌&&◌, Bool, true, false, not, L
 use Rattle.std.specs.List.{list_any, starts_with}
 use Rattle.names_dm.specs.Terminals.{is_iri}
 
--- RDF Schema 1.1, section 1.1
+-- both in RDF Schema 1.1, section 1
 abbrev pub rdf : List ℕ
 rdf = codes "http://www.w3.org/1999/02/22-rdf-syntax-ns#"
 
 abbrev pub rdfs : List ℕ
 rdfs = codes "http://www.w3.org/2000/01/rdf-schema#"
 
--- OWL 2, Structural Specification, section 2.4
+-- all four in OWL 2, Structural Specification and Functional-Style Syntax, section 2.4
 abbrev pub owl : List ℕ
 owl = codes "http://www.w3.org/2002/07/owl#"
 

@@ -1,5 +1,5 @@
--- The IRIs of rows (A Direct Mapping of Relational Data to RDF, section 2.2): the table, and each column of the key with
--- its value.
+-- The IRIs of rows (W3C, A Direct Mapping of Relational Data to RDF: row node): the table, and each column of the key
+-- with its value.
 use Rattle.std.specs.Prelude.{ℕ, ◌≡◌, ◌≢◌, List, [], ◌∷◌, ◌++◌, map}
 use Rattle.std.specs.List.{join_with_byte}
 use Rattle.value_dm.specs.Kinds.{kind_of}

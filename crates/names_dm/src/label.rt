@@ -94,8 +94,8 @@ fn is_label(text: &Text) -> bool
 }
 
 impl Label {
-    /// The label of this text, None exactly where BLANK_NODE_LABEL has no such label: it begins with a letter, a digit,
-    /// `_` or `:`, goes on with these, hyphens and dots, and doesn't end in a dot.
+    /// The label of this text, None exactly where BLANK_NODE_LABEL has no such label: it begins with a digit or a character
+    /// of PN_CHARS_U, goes on with characters of PN_CHARS and dots, and doesn't end in a dot.
     pub fn new(text: Text) -> Option<Label>
         ensures grammar { IsSome result ↔ IsTrue (is_label text) }
         ensures text { IfSome result (λ label. label ≡ text) }

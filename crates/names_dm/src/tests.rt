@@ -1,11 +1,11 @@
 use crate::{
-    Base, Iri, KeyPart, KeyParts, Label, RelName, Tag, Var, column_iri, read_column_iri,
-    read_ref_iri, read_rel_iri, read_table_iri, ref_iri, rel_iri, row_iri, row_label, safe,
-    table_iri, unsafe_of, variable,
+    Base, ColumnName, Iri, KeyPart, KeyParts, Label, Literal, LiteralType, RefName, RelName, Tag,
+    Term, Triple, Triples, Var, Vars, column_iri, read_column_iri, read_ref_iri, read_rel_iri,
+    read_table_iri, ref_iri, rel_iri, row_iri, row_label, safe, table_iri, unsafe_of, variable,
 };
 use std::alloc::{AllocError, Global};
 use std::test::Fail;
-use value_dm::{Names, Text, Value};
+use value_dm::{Names, Text, TryCopy, Value};
 
 const BASE: &str = "http://foo.example/DB/";
 
@@ -362,6 +362,8 @@ fn rows(rt: HostRuntime) -> Result<(), Fail> {
     let alloc = rt.alloc();
     let spelled = row(alloc, Value::Text(text(alloc, "x;b=y")?))?;
     assert_eq!(rt; spelled.as_str(), "http://foo.example/DB/K/a=x%3Bb%3Dy;b=z");
+    let empty = row(alloc, Value::Text(text(alloc, "")?))?;
+    assert_eq!(rt; empty.as_str(), "http://foo.example/DB/K/a=;b=z");
     let number = row(alloc, Value::Integer(18))?;
     assert_eq!(rt; number.as_str(), "http://foo.example/DB/K/a=18;b=z");
     Ok(())
@@ -374,5 +376,153 @@ fn labels_and_variables(rt: HostRuntime) -> Result<(), Fail> {
     assert_eq!(rt; variable(alloc, "ID")?.as_str(), "ID");
     assert_eq!(rt; variable(alloc, "a_b")?.as_str(), "a_5Fb");
     assert_eq!(rt; variable(alloc, "é ")?.as_str(), "_C3_A9_20");
+    Ok(())
+}
+
+// A type as it is given, and after `|` as a literal keeps it, on each line: nothing, an IRI, or `@` and a tag.
+fn types() -> &'static str {
+    "|
+http://www.w3.org/2001/XMLSchema#string|
+http://www.w3.org/2001/XMLSchema#integer|http://www.w3.org/2001/XMLSchema#integer
+http://www.w3.org/2001/XMLSchema#String|http://www.w3.org/2001/XMLSchema#String
+@en-GB|@en-GB"
+}
+
+fn kind(alloc: Global, letters: &str) -> Result<LiteralType, Fail> {
+    if letters.is_empty() {
+        return Ok(LiteralType::Plain);
+    }
+    match letters.strip_prefix('@') {
+        Some(tag) => Ok(LiteralType::Tagged(Tag::new(text(alloc, tag)?).ok_or("no tag")?)),
+        None => Ok(LiteralType::Typed(iri(alloc, letters)?)),
+    }
+}
+
+fn kind_letters(alloc: Global, kind: &LiteralType) -> Result<String, Fail> {
+    match kind {
+        LiteralType::Plain => Ok(String::new(alloc)),
+        LiteralType::Typed(datatype) => Ok(String::from_str(alloc, datatype.as_str())?),
+        LiteralType::Tagged(tag) => Ok(format!(in alloc; "@{}", tag.as_str())?),
+    }
+}
+
+fn literal(alloc: Global, letters: &str, type_letters: &str) -> Result<Literal, Fail> {
+    Ok(Literal::new(text(alloc, letters)?, kind(alloc, type_letters)?))
+}
+
+#[test]
+fn literals(rt: HostRuntime) -> Result<(), Fail> {
+    let alloc = rt.alloc();
+    for line in types().lines() {
+        let (given, kept) = line.split_once('|').ok_or("no type")?;
+        let literal = literal(alloc, "x", given)?;
+        assert_eq!(rt; literal.text().as_str(), "x");
+        assert_eq!(rt; kind_letters(alloc, literal.kind())?.as_str(), kept);
+    }
+    Ok(())
+}
+
+// The IRI, or the blank node after `_:`, or the plain literal after a quotation mark.
+fn term(alloc: Global, letters: &str) -> Result<Term, Fail> {
+    if let Some(label) = letters.strip_prefix("_:") {
+        let label = Label::new(text(alloc, label)?).ok_or("no label")?;
+        return Ok(Term::Blank(label));
+    }
+    match letters.strip_prefix('"') {
+        Some(plain) => Ok(Term::Literal(literal(alloc, plain, "")?)),
+        None => Ok(Term::Iri(iri(alloc, letters)?)),
+    }
+}
+
+fn terms() -> &'static str {
+    "http://a/o _:t1r1 \"x"
+}
+
+fn triple(alloc: Global, subject: &str, object: &str) -> Result<Option<Triple>, Fail> {
+    let predicate = iri(alloc, "http://a/p")?;
+    Ok(Triple::new(term(alloc, subject)?, predicate, term(alloc, object)?))
+}
+
+fn is_made_of(alloc: Global, triple: &Triple, subject: &str, object: &str) -> Result<bool, Fail> {
+    Ok(
+        (*triple.subject() == term(alloc, subject)?)
+            & (triple.predicate().as_str() == "http://a/p")
+            & (*triple.object() == term(alloc, object)?),
+    )
+}
+
+#[test]
+fn triples(rt: HostRuntime) -> Result<(), Fail> {
+    let alloc = rt.alloc();
+    for object in terms().split(' ') {
+        let triple = triple(alloc, "_:z", object)?.ok_or("no triple")?;
+        assert!(rt; is_made_of(alloc, &triple, "_:z", object)?, "{object}");
+        assert!(rt; !is_made_of(alloc, &triple, "_:y", object)?, "{object}");
+    }
+    assert!(rt; triple(alloc, "http://a/s", "http://a/o")?.is_some());
+    assert!(rt; triple(alloc, "\"x", "http://a/o")?.is_none());
+    Ok(())
+}
+
+fn is_copied<T: TryCopy + PartialEq + Drop>(alloc: Global, value: &T) -> Result<bool, Fail> {
+    Ok(value.copy(alloc)? == *value)
+}
+
+fn vars(alloc: Global) -> Result<Vars, AllocError> {
+    let mut vars = Vars::new(alloc);
+    vars.push(variable(alloc, "ID")?)?;
+    vars.push(variable(alloc, "a b")?)?;
+    Ok(vars)
+}
+
+fn add(list: &mut Triples, triple: Triple) -> Result<(), AllocError> {
+    list.push(triple)?;
+    Ok(())
+}
+
+#[test]
+fn copies_of_texts(rt: HostRuntime) -> Result<(), Fail> {
+    let alloc = rt.alloc();
+    assert!(rt; is_copied(alloc, &base(alloc)?)?);
+    assert!(rt; is_copied(alloc, &iri(alloc, "http://a/é")?)?);
+    assert!(rt; is_copied(alloc, &row_label(alloc, 1, 2)?)?);
+    let tag = Tag::new(text(alloc, "en")?).ok_or("no tag")?;
+    assert!(rt; is_copied(alloc, &tag)?);
+    assert!(rt; is_copied(alloc, &vars(alloc)?)?);
+    Ok(())
+}
+
+#[test]
+fn copies_of_terms(rt: HostRuntime) -> Result<(), Fail> {
+    let alloc = rt.alloc();
+    let mut list = Triples::new(alloc);
+    for object in terms().split(' ') {
+        assert!(rt; is_copied(alloc, &term(alloc, object)?)?, "{object}");
+        add(&mut list, triple(alloc, "_:z", object)?.ok_or("no triple")?)?;
+    }
+    assert!(rt; is_copied(alloc, &list)?);
+    for line in types().lines() {
+        let (given, _kept) = line.split_once('|').ok_or("no type")?;
+        assert!(rt; is_copied(alloc, &kind(alloc, given)?)?, "{given}");
+        assert!(rt; is_copied(alloc, &literal(alloc, "x", given)?)?, "{given}");
+    }
+    Ok(())
+}
+
+#[test]
+fn copies_of_names(rt: HostRuntime) -> Result<(), Fail> {
+    let alloc = rt.alloc();
+    let column = ColumnName {
+        table: text(alloc, "T")?,
+        column: text(alloc, "a b")?,
+    };
+    assert!(rt; is_copied(alloc, &column)?);
+    let reference = RefName {
+        table: text(alloc, "Q")?,
+        columns: list(alloc, "x", "y")?,
+    };
+    assert!(rt; is_copied(alloc, &reference)?);
+    assert!(rt; is_copied(alloc, &enrolled(alloc)?)?);
+    assert!(rt; is_copied(alloc, &key(alloc, Value::Integer(18))?)?);
     Ok(())
 }
