@@ -1,5 +1,5 @@
 -- Cutting a text by its bytes cuts it by its characters.
-use Rattle.std.proofs.Common.{◌≡◌, ◌≢◌, ◌∙◌, ◌++◌, ◌∷◌, ◌<◌, ◌≤◌, ◌+◌, [], ℕ, List, Bool, true, false, eqb, ltb, refl, sym, ap, arith, inl, inr, zero, suc, length, drop, get_or, append_assoc, Option, Some, None, chars, encode_utf8_all}
+use Rattle.std.proofs.Common.{◌≡◌, ◌≢◌, ◌∙◌, ◌++◌, ◌∷◌, ◌<◌, ◌≤◌, [], ℕ, List, true, false, eqb, ltb, refl, sym, ap, arith, inl, inr, zero, suc, length, get_or, append_assoc, Option, Some, None, chars, encode_utf8_all}
 use Rattle.std.proofs.lemmas.Bool.{cases_Bool, cases_lt, eqb-true, le-ltb, ne_eqb}
 use Rattle.std.proofs.lemmas.Str.{chars-nil, encode_same, encodes-append, encodes-chars}
 use Rattle.std.proofs.lemmas.Str.Pattern.{IsSplitOnceResult, split_parts}
@@ -7,8 +7,8 @@ use Rattle.std.specs.Borrow.{Bor}
 use Rattle.std.specs.Str.{IsUtf8}
 use Rattle.std.specs.Str.Pattern.{FindsTextPrefix, StripsPrefix}
 use Rattle.std.specs.Char.{encode_utf8}
-use Rattle.std.specs.Prelude.{if◌then◌else◌, MatchOption}
-use Rattle.names_dm.specs.Reading.{after, before_more, cut_at}
+use Rattle.std.specs.Prelude.{MatchOption}
+use Rattle.names_dm.specs.Reading.{after, cut_at}
 use Rattle.names_dm.proofs.Ascii.{encode_one, first_byte}
 use Rattle.names_dm.proofs.Parts.{append-after, eqb-same, lacks}
 use Rattle.names_dm.proofs.Utf8.{chars-encode, chars-encodes_any}

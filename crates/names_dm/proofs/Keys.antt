@@ -1,25 +1,21 @@
 -- The keys of rows in their IRIs.
-use Rattle.std.proofs.Common.{◌≡◌, ◌≢◌, ◌∙◌, ◌++◌, ◌∷◌, ◌||◌, ◌&&◌, [], ℕ, List, Bool, true, false, cond, eqb, refl, sym, ap, append_assoc, inl, inr, map, Option, Some, None}
+use Rattle.std.proofs.Common.{◌≡◌, ◌∙◌, ◌++◌, ◌∷◌, [], ℕ, List, Bool, true, false, eqb, refl, sym, ap, append_assoc, map, Option, Some}
 use Rattle.std.specs.Prelude.{codes, if◌then◌else◌}
-use Rattle.std.proofs.lemmas.Bool.{cases_Bool}
 use Rattle.std.proofs.lemmas.List.{map-append}
 use Rattle.std.specs.List.{join_with_byte, slice_split}
-use Rattle.value_dm.specs.declared.value.Value.{Value}
 use Rattle.value_dm.specs.Kinds.{kind_of}
 use Rattle.value_dm.specs.Lawful.{IsLawful}
 use Rattle.value_dm.specs.Lexical.{lexical_form}
 use Rattle.value_dm.proofs.Values.{lexical_form_one}
 use Rattle.names_dm.specs.declared.key.KeyPart.{KeyPart}
-use Rattle.names_dm.specs.declared.names.ColumnName.{ColumnName}
 use Rattle.names_dm.specs.declared.names.RefName.{RefName}
-use Rattle.names_dm.specs.declared.names.RelName.{RelName}
 use Rattle.names_dm.specs.IriSafe.{safe_form, stays}
 use Rattle.names_dm.specs.Names.{column_list, equals_sign, number_sign, pairing, semicolon}
 use Rattle.names_dm.specs.Reading.{cut_at}
 use Rattle.names_dm.specs.Rows.{AreLawful, RowsApart, SameKinds, key_list, key_pair, row_iri, slash}
 use Rattle.names_dm.proofs.Lists.{join-push}
 use Rattle.names_dm.proofs.NamesApart.{has_mark, no_mark, same_part}
-use Rattle.names_dm.proofs.Parts.{cut_at-append, eqb-same, lacks, lacks-append, split-append, split-lacks}
+use Rattle.names_dm.proofs.Parts.{cut_at-append, lacks, lacks-append, split-append, split-lacks}
 use Rattle.names_dm.proofs.ReadBack.{safe_form-injective}
 use Rattle.names_dm.proofs.SafeForms.{in_safe}
 use Rattle.names_dm.proofs.Told.{form_lacks, number_sign_out}
@@ -111,11 +107,20 @@ same_key (x ∷ a) [] lawful_a lawful_b kinds same = cc (sym (has_equals_sign x 
 same_key (x ∷ a) (y ∷ b) lawful_a lawful_b kinds same =
     same_pairs (x ∷ a) (y ∷ b) lawful_a lawful_b kinds (sym (split-key_list x a) ∙ ap (slice_split (λ c. eqb c semicolon)) same ∙ split-key_list y b)
 
-pub same_row : (base t u : List ℕ) (a b : List KeyPart) → AreLawful a → AreLawful b → SameKinds a b → row_iri base t a ≡ row_iri base u b → (t ≡ u) × (a ≡ b)
-same_row base t u a b lawful_a lawful_b kinds same =
+row_sides : (base t u : List ℕ) (a b : List KeyPart) → row_iri base t a ≡ row_iri base u b → (t ≡ u) × (key_list a ≡ key_list b)
+row_sides base t u a b same =
     let sides = same_sides slash (safe_form t) (key_list a) (safe_form u) (key_list b) (form_lacks slash t slash_out) (form_lacks slash u slash_out)
     (same_part base (safe_form t ++ slash ∷ key_list a) (safe_form u ++ slash ∷ key_list b) same) in
-    (safe_form-injective t u sides.0, same_key a b lawful_a lawful_b kinds sides.1)
+    (safe_form-injective t u sides.0, sides.1)
+
+-- whatever the keys
+pub same_table : (base t u : List ℕ) (a b : List KeyPart) → row_iri base t a ≡ row_iri base u b → t ≡ u
+same_table base t u a b same = (row_sides base t u a b same).0
+
+pub same_row : (base t u : List ℕ) (a b : List KeyPart) → AreLawful a → AreLawful b → SameKinds a b → row_iri base t a ≡ row_iri base u b → (t ≡ u) × (a ≡ b)
+same_row base t u a b lawful_a lawful_b kinds same =
+    let sides = row_sides base t u a b same in
+    (sides.0, same_key a b lawful_a lawful_b kinds sides.1)
 
 -- ---- rows and other names
 

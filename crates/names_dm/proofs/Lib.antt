@@ -1,7 +1,7 @@
 mod Ascii
 mod Cuts
 mod Escapes
-mod Keys
+pub mod Keys
 mod Lists
 mod Marks
 mod NamesApart

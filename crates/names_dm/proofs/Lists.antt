@@ -1,5 +1,5 @@
 -- Lists of names with semicolons between them.
-use Rattle.std.proofs.Common.{◌≡◌, ◌∙◌, ◌++◌, [], ◌∷◌, ℕ, List, Bool, true, false, cond, refl, sym, ap, append_assoc, map}
+use Rattle.std.proofs.Common.{◌≡◌, ◌∙◌, ◌++◌, [], ◌∷◌, ℕ, List, Bool, false, refl, sym, ap, append_assoc, map}
 use Rattle.std.specs.List.{join_with_byte}
 use Rattle.std.specs.Prelude.{if◌then◌else◌}
 use Rattle.std.proofs.lemmas.List.{map-append}

@@ -1,13 +1,13 @@
 -- Different names have different IRIs.
-use Rattle.std.proofs.Common.{◌≡◌, ◌≢◌, ◌∙◌, ◌++◌, ◌∷◌, [], ℕ, List, Bool, true, false, eqb, refl, sym, ap, inl, inr, Option, Some, None, append_assoc, get_or, map}
+use Rattle.std.proofs.Common.{◌≡◌, ◌≢◌, ◌∙◌, ◌++◌, ◌∷◌, [], ℕ, List, true, false, eqb, refl, sym, ap, inl, inr, Option, Some, append_assoc, get_or}
 use Rattle.std.proofs.lemmas.Bool.{cases_Bool}
-use Rattle.std.specs.Prelude.{codes, option_and_then, if◌then◌else◌}
+use Rattle.std.specs.Prelude.{codes}
 use Rattle.names_dm.specs.Apart.{NamesApart}
 use Rattle.names_dm.specs.declared.names.ColumnName.{ColumnName}
 use Rattle.names_dm.specs.declared.names.RefName.{RefName}
 use Rattle.names_dm.specs.declared.names.RelName.{RelName}
-use Rattle.names_dm.specs.IriSafe.{safe_character, safe_form, stays}
-use Rattle.names_dm.specs.Names.{column_iri, column_list, column_part, equals_sign, number_sign, pairing, ref_iri, ref_part, rel_iri, rel_part, semicolon, table_iri}
+use Rattle.names_dm.specs.IriSafe.{safe_form, stays}
+use Rattle.names_dm.specs.Names.{column_iri, column_list, equals_sign, number_sign, pairing, ref_iri, rel_iri, semicolon, table_iri}
 use Rattle.names_dm.specs.Reading.{after, local_parts, told_column, told_ref, told_rel, told_table}
 use Rattle.names_dm.proofs.Parts.{after-append, eqb-same, lacks}
 use Rattle.names_dm.proofs.ReadBack.{safe_form-injective}

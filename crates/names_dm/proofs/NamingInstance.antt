@@ -1,21 +1,19 @@
 -- Every base keeps the laws of names.
-use Rattle.std.proofs.Common.{◌≡◌, ◌≢◌, ◌∙◌, ◌++◌, ◌∷◌, ◌||◌, ◌&&◌, [], ℕ, List, Bool, true, false, not, eqb, refl, sym, ap, inl, inr, Option, Some, None}
+use Rattle.std.proofs.Common.{◌≡◌, ◌∙◌, ◌++◌, ◌∷◌, ◌||◌, ◌&&◌, [], ℕ, List, Bool, true, false, not, eqb, refl, sym, ap, inl, inr, Option, Some, None}
 use Rattle.std.proofs.lemmas.Bool.{cases_Bool, eqb-true}
-use Rattle.std.specs.Prelude.{codes, nat_eq, option_and_then, if◌then◌else◌}
+use Rattle.std.specs.Prelude.{codes, nat_eq, option_and_then}
 use Rattle.std.specs.List.{list_any, starts_with}
 use Rattle.value_dm.specs.declared.kind.Kind.{Kind}
 use Rattle.value_dm.specs.declared.kind.Kind.TheVariants as kind
 use Rattle.names_dm.specs.declared.names.ColumnName.{ColumnName}
-use Rattle.names_dm.specs.declared.names.RefName.{RefName}
-use Rattle.names_dm.specs.declared.names.RelName.{RelName}
 use Rattle.names_dm.specs.declared.term.Term.{Term}
 use Rattle.names_dm.specs.declared.term.Term.TheVariants as term
 use Rattle.names_dm.specs.Facts.{Fact, KindText, Link, Node, Word, a_cell, a_class, a_domain, a_link, a_link_range, a_mark, a_node, a_property, a_range, an_object, blank, class_word, datatype_property_word, datatype_word, different_word, domain_word, iri, link_iri, literal_type, node_term, object_property_word, range_word, ref_link, rel_link, triple_of, type_word, word_iri}
 use Rattle.names_dm.specs.IriSafe.{safe_form}
-use Rattle.names_dm.specs.Meanings.{Meaning, NamingLaws, empty_ref_of, find_kind, first_link, kind_told, meaning, of_nothing, of_property, of_table, of_word, told_link, value_told, word_of}
-use Rattle.names_dm.specs.Names.{column_iri, column_list, number_sign, pairing, semicolon, ref_iri, rel_iri, table_iri}
+use Rattle.names_dm.specs.Meanings.{Meaning, NamingLaws, kind_told, meaning, of_nothing, of_property, of_table, of_word, told_link, value_told, word_of}
+use Rattle.names_dm.specs.Names.{column_list, number_sign, pairing, semicolon, table_iri}
 use Rattle.names_dm.specs.Namespaces.{is_base, is_empty_text, namespaces, one_begins, owl, rdf, rdfs, xsd}
-use Rattle.names_dm.specs.Reading.{after, before_more, cut_at, local_parts, told_column, told_ref, told_rel, unsafe_form}
+use Rattle.names_dm.specs.Reading.{after, cut_at, told_column, told_ref, told_rel}
 use Rattle.names_dm.specs.Statements.{Statement}
 use Rattle.names_dm.specs.Terminals.{is_iri}
 use Rattle.names_dm.proofs.Ascii.{and_parts}

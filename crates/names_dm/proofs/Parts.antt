@@ -1,9 +1,8 @@
 -- The parts of a text that is put together.
-use Rattle.std.proofs.Common.{◌≡◌, ◌≢◌, ◌∙◌, ◌++◌, ◌∷◌, ◌||◌, ◌&&◌, [], ℕ, List, Bool, true, false, eqb, refl, sym, ap, inl, inr, Option, Some, None, map}
+use Rattle.std.proofs.Common.{◌≡◌, ◌∙◌, ◌++◌, ◌∷◌, [], ℕ, List, Bool, true, false, eqb, refl, sym, ap, inl, inr, Option, Some, None}
 use Rattle.std.proofs.lemmas.Bool.{cases_Bool, eq-eqb, eqb-true}
 use Rattle.std.specs.Prelude.{if◌then◌else◌}
-use Rattle.std.specs.List.{join_with_byte, list_all, list_any, onto_first, slice_split}
-use Rattle.std.specs.Cmp.Lexicographic.{pointwise, bytes_decides}
+use Rattle.std.specs.List.{list_all, slice_split}
 use Rattle.names_dm.specs.Reading.{after, before_more, cut_at}
 use Rattle.names_dm.proofs.Ascii.{and_parts}
 use Rattle.names_dm.proofs.SafeForms.{in_safe}

@@ -1,11 +1,9 @@
 -- Readers give the names that made an IRI, exactly where there are some.
-use Rattle.std.proofs.Common.{◌≡◌, ◌≢◌, ◌∙◌, ◌∷◌, ◌&&◌, [], ℕ, List, Bool, true, false, refl, sym, ap, inl, inr, Option, Some, None, arith, length, ltb, suc}
+use Rattle.std.proofs.Common.{◌≡◌, ◌∙◌, ◌∷◌, ◌&&◌, [], ℕ, List, Bool, true, false, refl, sym, ap, inl, inr, Option, Some, None, arith, length, ltb, suc}
 use Rattle.std.proofs.lemmas.Bool.{cases_Bool, lt-ltb}
 use Rattle.names_dm.proofs.Ascii.{and_parts}
 use Rattle.std.specs.List.{list_all}
-use Rattle.names_dm.specs.declared.names.ColumnName.{ColumnName}
 use Rattle.names_dm.specs.declared.names.RefName.{RefName}
-use Rattle.names_dm.specs.declared.names.RelName.{RelName}
 use Rattle.names_dm.specs.Names.{column_iri, ref_iri, rel_iri, table_iri}
 use Rattle.names_dm.specs.Reading.{Tells, are_names, is_column_name, is_name, is_ref_name, is_rel_name, only, read_column, read_ref, read_rel, read_table, told_column, told_ref, told_rel, told_table}
 use Rattle.names_dm.proofs.Told.{column_iri-told, ref_iri-told, rel_iri-told, table_iri-told, told_column-column, told_ref-ref, told_rel-rel, told_table-table}

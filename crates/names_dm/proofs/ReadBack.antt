@@ -1,5 +1,5 @@
 -- A safe form reads back.
-use Rattle.std.proofs.Common.{◌≡◌, ◌≢◌, ◌∙◌, ◌++◌, ◌∷◌, ◌||◌, ◌&&◌, ◌<◌, ◌≤◌, ◌+◌, ◌/◌, ◌%◌, [], ℕ, List, Bool, true, false, eqb, leb, ltb, refl, sym, ap, arith, inl, inr, append_assoc, Option, Some, None, encode_utf8_all, chars, nat_eq, flat_map}
+use Rattle.std.proofs.Common.{◌≡◌, ◌≢◌, ◌∙◌, ◌++◌, ◌∷◌, ◌||◌, ◌&&◌, ◌<◌, [], ℕ, List, Bool, true, false, leb, ltb, refl, sym, ap, arith, inl, inr, append_assoc, Option, Some, None, encode_utf8_all, chars, nat_eq, flat_map}
 use Rattle.std.specs.Prelude.{if◌then◌else◌}
 use Rattle.std.proofs.lemmas.Bool.{cases_Bool, cases_lt, leb-false, le-leb, lt-ltb, le-ltb, ltb-false}
 use Rattle.std.proofs.lemmas.List.{append-nil}

@@ -1,5 +1,5 @@
 -- What stands in a safe form, and that IRIs hold it.
-use Rattle.std.proofs.Common.{◌≡◌, ◌≢◌, ◌∙◌, ◌++◌, ◌∷◌, ◌||◌, ◌&&◌, ◌<◌, ◌≤◌, ◌/◌, ◌%◌, [], ℕ, List, Bool, true, false, not, eqb, leb, cond, refl, sym, ap, arith, inl, inr, flat_map}
+use Rattle.std.proofs.Common.{◌≡◌, ◌∙◌, ◌++◌, ◌∷◌, ◌||◌, ◌&&◌, ◌<◌, ◌≤◌, ◌/◌, ◌%◌, [], ℕ, List, Bool, true, false, not, eqb, leb, refl, sym, ap, arith, inl, inr, flat_map}
 use Rattle.std.proofs.lemmas.Bool.{cases_Bool, cases_lt, agree_below, agree_below_at, lt-leb, ltb-true}
 use Rattle.std.proofs.lemmas.List.Folds.{list_all-append, list_any-append}
 use Rattle.std.specs.Char.{encode_utf8}

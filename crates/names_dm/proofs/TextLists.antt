@@ -1,8 +1,8 @@
 -- Lists of texts that are read part by part.
-use Rattle.std.proofs.Common.{◌≡◌, ◌∙◌, ◌++◌, ◌∷◌, [], ℕ, List, Bool, true, false, eqb, refl, sym, ap, append_assoc, inl, inr, Option, Some, None}
+use Rattle.std.proofs.Common.{◌≡◌, ◌∙◌, ◌++◌, ◌∷◌, [], ℕ, List, eqb, refl, sym, ap, append_assoc, inl, inr, Option, Some, None}
 use Rattle.std.proofs.lemmas.Bool.{cases_Bool}
 use Rattle.std.specs.List.{onto_first, slice_split}
-use Rattle.std.specs.Prelude.{if◌then◌else◌, option_and_then}
+use Rattle.std.specs.Prelude.{option_and_then}
 use Rattle.names_dm.specs.Names.{semicolon}
 use Rattle.names_dm.specs.Reading.{before_more, cut_at, list_of, texts_of, unsafe_form}
 

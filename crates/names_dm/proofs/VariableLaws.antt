@@ -1,11 +1,11 @@
 -- Variables of names: their grammar, and that different names have different ones.
-use Rattle.std.proofs.Common.{◌≡◌, ◌≢◌, ◌∙◌, ◌++◌, ◌∷◌, ◌||◌, ◌&&◌, ◌<◌, ◌≤◌, ◌/◌, ◌%◌, ◌+◌, ◌*◌, [], ℕ, List, Bool, true, false, eqb, leb, ltb, refl, sym, ap, arith, inl, inr, flat_map, encode_utf8_all, length, get_or, zero, suc}
+use Rattle.std.proofs.Common.{◌≡◌, ◌∙◌, ◌++◌, ◌∷◌, ◌||◌, ◌&&◌, ◌<◌, ◌≤◌, ◌/◌, ◌%◌, [], ℕ, List, Bool, true, false, eqb, leb, ltb, refl, sym, ap, arith, inl, inr, flat_map, encode_utf8_all, length, get_or, zero, suc}
 use Rattle.std.proofs.lemmas.Bool.{cases_Bool, cases_lt, eqb-true, ltb-false, agree_below, agree_below_at, lt-leb, le-ltb}
 use Rattle.std.proofs.lemmas.Str.{encodes_same}
 use Rattle.std.specs.Char.{digit_value}
 use Rattle.std.specs.Fmt.{digit_glyph}
 use Rattle.std.specs.List.{list_all}
-use Rattle.names_dm.specs.Terminals.{is_letter_or_digit, is_variable, is_variable_character, is_word_of}
+use Rattle.names_dm.specs.Terminals.{is_letter_or_digit, is_variable, is_variable_character}
 use Rattle.names_dm.specs.Variables.{stays_in_variable, variable_byte, variable_of}
 use Rattle.std.specs.Str.{IsAscii}
 use Rattle.std.proofs.lemmas.Str.Ascii.{IsAscii-nil}

@@ -1,6 +1,5 @@
 -- What one triple of a database's graph says, and the triples that say it.
-use Rattle.std.specs.Prelude.{ℕ, ◌≡◌, ◌++◌, Bool, true, false, List, [], ◌∷◌, Option, Some, None, codes, nat_eq, if◌then◌else◌, option_and_then, ◌&&◌}
-use Rattle.std.specs.Cmp.Lexicographic.{pointwise}
+use Rattle.std.specs.Prelude.{ℕ, ◌++◌, List, [], ◌∷◌, codes}
 use Rattle.value_dm.specs.declared.kind.Kind.{Kind}
 use Rattle.value_dm.specs.declared.kind.Kind.TheVariants as kind
 use Rattle.names_dm.specs.declared.names.ColumnName.{ColumnName}
@@ -11,7 +10,7 @@ use Rattle.names_dm.specs.declared.literal.LiteralType.TheVariants as type
 use Rattle.names_dm.specs.declared.term.Term.{Term}
 use Rattle.names_dm.specs.declared.term.Term.TheVariants as term
 use Rattle.names_dm.specs.IriSafe.{safe_form}
-use Rattle.names_dm.specs.Literals.{LiteralValue, xsd_string}
+use Rattle.names_dm.specs.Literals.{xsd_string}
 use Rattle.names_dm.specs.Names.{column_iri, number_sign, ref_iri, rel_iri, table_iri}
 use Rattle.names_dm.specs.Namespaces.{owl, rdf, rdfs, xsd}
 use Rattle.names_dm.specs.Statements.{Statement}

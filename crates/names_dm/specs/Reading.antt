@@ -1,5 +1,5 @@
 -- Which names an IRI tells: the inverse of the makers, as functions of the text.
-use Rattle.std.specs.Prelude.{ℕ, ◌==◌, ◌≡◌, ◌≢◌, IsTrue, MatchOption, ◌&&◌, Bool, true, false, not, List, [], ◌∷◌, Option, Some, None, if◌then◌else◌, codes, chars, encode_utf8_all, nat_eq, option_and_then}
+use Rattle.std.specs.Prelude.{ℕ, ◌==◌, ◌≡◌, ◌≢◌, IsTrue, MatchOption, ◌&&◌, Bool, false, not, List, [], ◌∷◌, Option, Some, None, if◌then◌else◌, codes, chars, encode_utf8_all, nat_eq, option_and_then}
 use Rattle.std.specs.Cmp.Lexicographic.{pointwise}
 use Rattle.std.specs.List.{list_all, slice_split}
 use Rattle.percent_encoding.specs.Percent.{percent_decode}

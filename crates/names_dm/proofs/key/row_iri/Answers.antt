@@ -1,4 +1,4 @@
-use Rattle.std.proofs.Common.{◌≡◌, ◌∙◌, ◌∷◌, [], chars, ap, sym}
+use Rattle.std.proofs.Common.{◌≡◌, ◌∙◌, ◌∷◌, [], chars}
 use Rattle.names_dm.specs.IriSafe.{safe_form}
 use Rattle.names_dm.specs.Rows.{key_list, row_iri, slash}
 use Rattle.names_dm.proofs.Keys.{rows_apart, same_row}

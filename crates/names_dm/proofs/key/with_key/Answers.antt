@@ -1,6 +1,6 @@
 use Rattle.std.proofs.Common.{◌≡◌, ◌∙◌, ◌++◌, ◌+◌, [], ◌∷◌, sym, ap, take, get_or, List, ℕ}
 use Rattle.std.proofs.lemmas.List.{take_more}
-use Rattle.names_dm.specs.Rows.{AreLawful, key_list, key_pair}
+use Rattle.names_dm.specs.Rows.{key_list, key_pair}
 use Rattle.names_dm.proofs.Lists.{four_parts}
 use Rattle.names_dm.proofs.Keys.{AreLawful-push, is_empty-key_push, key_list-push}
 use Rattle.names_dm.proofs.key.with_key.Goals as goal

@@ -1,7 +1,5 @@
-use Rattle.std.proofs.Common.{◌≡◌, ◌≤◌, ◌&&◌, sym, ap, length, take, ltb, List, ℕ}
+use Rattle.std.proofs.Common.{◌≡◌, ◌≤◌, length, take}
 use Rattle.std.proofs.lemmas.List.{take_all}
-use Rattle.std.specs.List.{list_all}
-use Rattle.names_dm.specs.Reading.{is_name}
 use Rattle.names_dm.proofs.Read.{are_names-from_loop}
 use Rattle.names_dm.proofs.readers.are_names.Goals as goal
 

@@ -1,4 +1,4 @@
-use Rattle.std.proofs.Common.{◌≡◌, ◌∙◌, ◌∷◌, [], sym, ap, chars, rules, List, ℕ, Option, Some}
+use Rattle.std.proofs.Common.{◌∙◌, ◌∷◌, [], sym, ap, chars, rules, List, ℕ, Option, Some}
 use Rattle.std.specs.Prelude.{option_and_then}
 use Rattle.std.specs.Str.{IsUtf8}
 use Rattle.names_dm.specs.Reading.{list_of}

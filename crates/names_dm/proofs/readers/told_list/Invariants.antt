@@ -1,4 +1,4 @@
-use Rattle.std.proofs.Common.{◌≡◌, length, chars, List, ℕ}
+use Rattle.std.proofs.Common.{◌≡◌, length, chars}
 use Rattle.std.specs.Str.{IsUtf8}
 use Rattle.names_dm.specs.Reading.{list_of}
 use Rattle.names_dm.proofs.TextLists.{with_more}

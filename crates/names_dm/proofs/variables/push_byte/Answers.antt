@@ -1,7 +1,6 @@
-use Rattle.std.proofs.Common.{◌≡◌, ◌∙◌, ◌++◌, ◌∷◌, ◌/◌, ◌%◌, [], ap, arith, refl, sym, true, false, string_bytes, append_assoc, List, ℕ}
+use Rattle.std.proofs.Common.{◌≡◌, ◌∙◌, ◌++◌, ◌∷◌, ◌/◌, ◌%◌, [], ap, arith, sym, true, false, string_bytes, append_assoc, List, ℕ}
 use Rattle.std.specs.Fmt.{digit_glyph}
 use Rattle.names_dm.specs.Terminals.{is_letter_or_digit}
-use Rattle.names_dm.specs.Variables.{stays_in_variable}
 use Rattle.names_dm.proofs.Ascii.{encode_one}
 use Rattle.names_dm.proofs.VariableLaws.{digit_small, letter_small, letter_stays, other_byte_goes}
 use Rattle.names_dm.proofs.variables.push_byte.Goals as goal

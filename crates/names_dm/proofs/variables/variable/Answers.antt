@@ -1,7 +1,7 @@
-use Rattle.std.proofs.Common.{◌≡◌, ◌∙◌, ◌<◌, ◌≤◌, sym, ap, arith, length, take, get_or, string_bytes, flat_map, chars, List, ℕ}
+use Rattle.std.proofs.Common.{◌≡◌, ◌∙◌, ◌<◌, ◌≤◌, sym, ap, arith, length, take, get_or, string_bytes, flat_map, chars, ℕ}
 use Rattle.std.proofs.lemmas.List.{take_all}
 use Rattle.std.proofs.lemmas.Str.{chars-IsAscii, encodes-chars}
-use Rattle.names_dm.specs.Variables.{variable_byte, variable_of}
+use Rattle.names_dm.specs.Variables.{variable_byte}
 use Rattle.names_dm.proofs.VariableLaws.{bytes_fit, fits_ascii, is_variable-bytes, variable_of-injective}
 use Rattle.names_dm.proofs.variables.variable.Goals as goal
 

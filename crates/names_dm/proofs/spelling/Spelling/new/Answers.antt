@@ -1,4 +1,4 @@
-use Rattle.std.proofs.Common.{◌≡◌, ◌∙◌, chars, ap}
+use Rattle.std.proofs.Common.{◌∙◌, chars, ap}
 use Rattle.names_dm.proofs.SafeForms.{is_iri-base}
 use Rattle.names_dm.proofs.spelling.Spelling.new.Goals as goal
 

@@ -1,4 +1,4 @@
-use Rattle.std.proofs.Common.{◌≡◌, ◌∙◌, ◌++◌, ap, chars, List, ℕ, string_bytes}
+use Rattle.std.proofs.Common.{◌∙◌, ◌++◌, ap, chars, List, ℕ, string_bytes}
 use Rattle.std.proofs.lemmas.Str.{IsUtf8-string_bytes, chars-IsAscii, chars-append}
 use Rattle.names_dm.proofs.SafeForms.{is_iri-append, is_iri-marks, marks_ascii}
 use Rattle.names_dm.proofs.spelling.Spelling.with.Goals as goal
