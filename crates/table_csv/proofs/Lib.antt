@@ -1,0 +1,13 @@
+pub mod Zips
+pub mod Distinct
+pub mod Fields
+pub mod HeaderLemmas
+pub mod RowLemmas
+pub mod RecordLemmas
+pub mod LineLemmas
+pub mod TextLemmas
+pub mod OneFile
+pub mod OneFault
+pub mod FittingRows
+pub mod Databases
+pub mod SomeAnswer
