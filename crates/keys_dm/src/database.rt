@@ -1,0 +1,50 @@
+ghost use Rattle.std.specs.Prelude.{◌≡◌, ◌↔◌, ◌<◌, [], ◌∷◌, length, IfOk, IsTrue, OnOk};
+ghost use Rattle.members_dm.specs.Places.{IsListing};
+ghost use Rattle.keys_dm.specs.Adding.{Adds};
+ghost use Rattle.keys_dm.specs.Kept.{HasMatches};
+ghost use Rattle.keys_dm.specs.Violations.{KeepsKeys, ViolatesAt};
+
+use crate::ViolationList;
+use crate::row::{Spot, push_of_row};
+use crate::table_indexes::{indexes_of, rows_of};
+use std::alloc::{AllocError, Global};
+use table_csv::Database;
+
+/// All violations of keys (ISO/IEC 9075-2, 4.17), ordered by table, row, primary key, unique keys by
+/// number, foreign keys by number. Refused for want of memory alone.
+///
+/// Where there is none, each foreign key of a row without a NULL has exactly one matching row.
+pub fn violations(alloc: Global, database: &Database) -> Result<ViolationList, AllocError>
+    ensures listed { IfOk result (λ found. IsListing (ViolatesAt database.now) found) }
+    ensures kept { IfOk result (λ found. (found ≡ []) ↔ KeepsKeys database.now) }
+    ensures matched { IfOk result (λ found. found ≡ [] → HasMatches database.now) }
+{
+    let mut found = ViolationList::new(alloc);
+    for table in 0..database.schema().tables().len() {
+        push_of_table(alloc, database, table as u32, &mut found)?;
+    }
+    Ok(found)
+}
+
+fn push_of_table(
+    alloc: Global,
+    database: &Database,
+    table: u32,
+    found: &mut ViolationList,
+) -> Result<(), AllocError>
+    requires { table < length database.now.tables }
+    ensures { OnOk result (Adds (λ p x. ViolatesAt database.now (table ∷ p) x) found.old found.new) }
+{
+    let indexes = indexes_of(alloc, database, table)?;
+    for row in 0..rows_of(database, table).len() {
+        push_of_row(alloc, database, &indexes, Spot { table, row }, found)?;
+    }
+    Ok(())
+}
+
+/// Whether no row violates a key. Refused for want of memory alone.
+pub fn holds_all(alloc: Global, database: &Database) -> Result<bool, AllocError>
+    ensures { IfOk result (λ kept. IsTrue kept ↔ KeepsKeys database.now) }
+{
+    Ok(violations(alloc, database)?.len() == 0)
+}
