@@ -1,0 +1,9 @@
+mod KeyRows
+mod NodeLaws
+mod KeyNodes
+mod LevelTexts
+pub mod DirectLevels
+mod Words
+mod TripleParts
+mod Keys
+mod RowParts
