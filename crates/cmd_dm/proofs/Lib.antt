@@ -1,9 +1,7 @@
-pub mod FirstSchemaLemmas
-pub mod FirstRowsLemmas
 pub mod Outcomes
 pub mod Endings
 pub mod Lines
-pub mod DirectLevels
-pub mod LevelTextsLemmas
-pub mod AsciiTexts
+pub mod StepLaws
+pub mod Found
+pub mod SomeOutcome
 pub mod Promises

@@ -1,38 +1,95 @@
 -- One thing comes of a script.
-use Rattle.std.proofs.Common.{◌≡◌, ◌∙◌, sym, ap, subst, ℕ, List, length, Option, Some, None, Result, Ok, Err, true, false, nat_lt}
+use Rattle.std.proofs.Common.{◌≡◌, ◌∙◌, sym, ap, subst, inl, inr, ℕ, List, length, Option, Some, None, Result, Ok, Err, true, false, nat_lt}
 use Rattle.std.specs.Prelude.{MatchBool}
 use Rattle.std.specs.FinMap.{get}
-use Rattle.outside_dm.specs.Shelves.{Files, longest}
-use Rattle.cmd_dm.specs.Questions.{Question, AnswerTo, Answers, IsSchemaAnswer, IsRowsAnswer, TextRows, schema_of, rows_of, graph_of}
-use Rattle.std.specs.List.{flat_map}
 use Rattle.members_dm.proofs.PlacesLemmas.{listing_unique}
-use Rattle.cmd_dm.specs.DirectGraph.{StandsAt}
-use Rattle.cmd_dm.specs.Written.{triple_text}
+use Rattle.members_dm.specs.Membership.{NoRepeats}
+use Rattle.value_dm.specs.declared.mode.NullMode.{NullMode}
+use Rattle.outside_dm.specs.Shelves.{Files, longest}
+use Rattle.schema_dm.specs.Naming.{column_names}
+use Rattle.schema_dm.specs.declared.draft.Column.{Column}
+use Rattle.schema_dm.specs.declared.table.Table.{Table}
+use Rattle.ddl_dm.specs.declared.ddl.DdlError.{DdlError}
+use Rattle.ddl_dm.specs.declared.ddl.DdlError.TheVariants as ddl
+use Rattle.ddl_dm.specs.Schema.{IsDdl}
+use Rattle.ddl_dm.proofs.OneAnswer.{IsSchemaAnswered, schema_one}
+use Rattle.table_csv.specs.Cells.{Row}
+use Rattle.table_csv.specs.TableFiles.{records_of}
+use Rattle.table_csv.specs.declared.fault.TableError.{TableError}
+use Rattle.table_csv.specs.declared.fault.TableError.TheVariants as table
+use Rattle.table_csv.proofs.HeaderLemmas.{fields_differ}
+use Rattle.table_csv.proofs.OneFile.{file_one, only_memory}
+use Rattle.table_csv.proofs.OneFault.{one_fault}
+use Rattle.keys_dm.specs.Violations.{ViolatesAt}
+use Rattle.graphs_dm.proofs.DirectLevels.{direct_text_unique}
+use Rattle.cmd_dm.specs.Questions.{Question, AnswerTo, Answers, IsSchemaAnswer, IsRowsAnswer, schema_of, rows_of, violations_of, direct_of}
+use Rattle.cmd_dm.specs.Reasons.{ddl_status, table_status}
 use Rattle.cmd_dm.specs.Script.{Script, Outcome, too_long, load, ask, refuse, write, AfterLoad, Comes}
-use Rattle.cmd_dm.proofs.FirstSchemaLemmas.{IsFirstSchema-unique}
-use Rattle.cmd_dm.proofs.FirstRowsLemmas.{IsFirstRows-unique}
-use Rattle.cmd_dm.specs.declared.first_schema.TextTable.{TextTable}
 use Rattle.cmd_dm.specs.declared.status.File.{File}
 use Rattle.cmd_dm.specs.declared.status.Reason.{Reason}
+use Rattle.cmd_dm.specs.declared.status.Status.TheVariants.{Refused, Memory}
 
-schema_answer_unique : (bytes : List ℕ) (a b : Result TextTable Reason) → IsSchemaAnswer bytes a → IsSchemaAnswer bytes b → a ≡ b
-schema_answer_unique bytes (Ok t) (Ok u) h k = ap Ok (IsFirstSchema-unique bytes t u h k)
-schema_answer_unique bytes (Ok t) (Err r) h k = absurd (k.1 t h)
-schema_answer_unique bytes (Err r) (Ok u) h k = absurd (h.1 u k)
-schema_answer_unique bytes (Err r) (Err s) h k = ap Err (h.0 ∙ sym k.0)
+refusal_one : (r s : Reason) → Refused r ≡ Refused s → r ≡ s
+refusal_one r s e = cc
 
-rows_answer_unique : (table : TextTable) (bytes : List ℕ) (a b : Result TextRows Reason) → IsRowsAnswer table bytes a → IsRowsAnswer table bytes b → a ≡ b
-rows_answer_unique table bytes (Ok t) (Ok u) h k = ap Ok (IsFirstRows-unique table bytes t u h k)
-rows_answer_unique table bytes (Ok t) (Err r) h k = absurd (k.1 t h)
-rows_answer_unique table bytes (Err r) (Ok u) h k = absurd (h.1 u k)
-rows_answer_unique table bytes (Err r) (Err s) h k = ap Err (h.0 ∙ sym k.0)
+no_refusal : {W : Type 0} (r : Reason) → Memory ≡ Refused r → W
+no_refusal r e = absurd cc
+
+-- ---- schemas
+
+pub refused_schema : (error : DdlError) (reason : Reason) → ddl_status error ≡ Refused reason → IsSchemaAnswered (Err error)
+refused_schema (ddl.NotUtf8 place) reason told = tt
+refused_schema (ddl.BadToken place) reason told = tt
+refused_schema (ddl.Unexpected place) reason told = tt
+refused_schema (ddl.UnknownType place) reason told = tt
+refused_schema (ddl.AlterUnknown number) reason told = tt
+refused_schema (ddl.Schema error) reason told = tt
+refused_schema ddl.Memory reason told = no_refusal reason told
+
+no_fault : (bytes : List ℕ) (tables : List Table) (reason : Reason) → IsDdl bytes tables → IsSchemaAnswer bytes (Err reason) → ⊥
+no_fault bytes tables reason h k = apart tables k.0 (schema_one bytes (Ok tables) (Err k.0) tt (refused_schema k.0 reason k.2) h k.1)
+  where
+    apart : (t : List Table) (e : DdlError) → ◌≡◌ {A = Result (List Table) DdlError} (Ok t) (Err e) → ⊥
+    apart t e same = cc
+
+pub schema_answer_unique : (bytes : List ℕ) (a b : Result (List Table) Reason) → IsSchemaAnswer bytes a → IsSchemaAnswer bytes b → a ≡ b
+schema_answer_unique bytes (Ok t) (Ok u) h k = ap Ok (tables_one t u (schema_one bytes (Ok t) (Ok u) tt tt h k))
+  where
+    tables_one : (t u : List Table) → ◌≡◌ {A = Result (List Table) DdlError} (Ok t) (Ok u) → t ≡ u
+    tables_one t u e = cc
+schema_answer_unique bytes (Ok t) (Err r) h k = absurd (no_fault bytes t r h k)
+schema_answer_unique bytes (Err r) (Ok u) h k = absurd (no_fault bytes u r k h)
+schema_answer_unique bytes (Err r) (Err s) h k =
+    let same = errors_one h.0 k.0 (schema_one bytes (Err h.0) (Err k.0) (refused_schema h.0 r h.2) (refused_schema k.0 s k.2) h.1 k.1) in
+    ap Err (refusal_one r s (sym h.2 ∙ ap ddl_status same ∙ k.2))
+  where
+    errors_one : (e f : DdlError) → ◌≡◌ {A = Result (List Table) DdlError} (Err e) (Err f) → e ≡ f
+    errors_one e f same = cc
+
+-- ---- rows
+
+refused_rows : (number : ℕ) (error : TableError) (reason : Reason) → table_status number error ≡ Refused reason → ¬ (error ≡ table.Memory)
+refused_rows number error reason told memory = no_refusal reason (sym (ap (table_status number) memory) ∙ told)
+
+pub rows_answer_unique : (columns : List Column) (mode : NullMode) (number : ℕ) (bytes : List ℕ) (a b : Result (List Row) Reason) → NoRepeats (column_names columns) →
+    IsRowsAnswer columns mode number bytes a → IsRowsAnswer columns mode number bytes b → a ≡ b
+rows_answer_unique columns mode number bytes (Ok t) (Ok u) distinct h k = ap Ok (file_one columns mode (records_of bytes) t u (fields_differ columns distinct) h k)
+rows_answer_unique columns mode number bytes (Ok t) (Err r) distinct h k = absurd (refused_rows number k.0 r k.2 (only_memory columns mode (records_of bytes) t k.0 h k.1))
+rows_answer_unique columns mode number bytes (Err r) (Ok u) distinct h k = absurd (refused_rows number h.0 r h.2 (only_memory columns mode (records_of bytes) u h.0 k h.1))
+rows_answer_unique columns mode number bytes (Err r) (Err s) distinct h k =
+    elim (one_fault columns mode (records_of bytes) h.0 k.0 (fields_differ columns distinct) h.1 k.1 (refused_rows number k.0 s k.2)) [
+      | inl same ↦ ap Err (refusal_one r s (sym h.2 ∙ ap (table_status number) same ∙ k.2))
+      | inr memory ↦ absurd (refused_rows number h.0 r h.2 memory)
+    ]
+
+-- ---- answers
 
 -- a question has one right answer
 pub answer_unique : (question : Question) (a b : AnswerTo question) → Answers question a → Answers question b → a ≡ b
 answer_unique (schema_of bytes) a b h k = schema_answer_unique bytes a b h k
-answer_unique (rows_of table bytes) a b h k = rows_answer_unique table bytes a b h k
-answer_unique (graph_of base table rows) a b h k =
-    h.lines ∙ ap (flat_map triple_text) (listing_unique (StandsAt base table rows) h.triples k.triples h.listing k.listing) ∙ sym k.lines
+answer_unique (rows_of columns mode number bytes) a b h k = rows_answer_unique columns mode number bytes a b h.0 h.1 k.1
+answer_unique (violations_of D) a b h k = listing_unique (ViolatesAt D) a b h k
+answer_unique (direct_of base D) a b h k = direct_text_unique base D a b h k
 
 after_load_unique : (file : File) (content : Option (List ℕ)) (rest : List ℕ → Outcome → Type 0) →
     ((bytes : List ℕ) (o p : Outcome) → rest bytes o → rest bytes p → o ≡ p) →

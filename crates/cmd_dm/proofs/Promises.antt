@@ -1,35 +1,37 @@
 -- What follows of how a run ended for the words as a whole.
-use Rattle.std.proofs.Common.{◌≡◌, ◌∙◌, refl, sym, ap, subst, inl, inr, ◌⊎◌, ℕ, ◌≤◌, List, length, Option, Some, None, Result, Ok, Err, true, false, Bool, nat_lt, cond}
-use Rattle.std.specs.Prelude.{IsTrue, MatchBool}
+use Rattle.std.proofs.Common.{◌≡◌, ◌∙◌, refl, sym, ap, subst, inl, inr, ◌⊎◌, ℕ, ◌+◌, ◌≤◌, List, [], ◌∷◌, length, Option, Some, None, Result, Ok, Err, true, false, Bool, cond}
+use Rattle.std.specs.Prelude.{IsTrue, IfSome, MatchBool}
 use Rattle.std.specs.FinMap.{get}
 use Rattle.std.specs.Io.KnownBytes.{Appends}
 use Rattle.std.proofs.lemmas.Bool.{le-ltb}
+use Rattle.members_dm.specs.Places.{IsListing}
+use Rattle.members_dm.proofs.PlacesLemmas.{listing_unique}
+use Rattle.value_dm.specs.declared.mode.NullMode.{NullMode}
 use Rattle.names_dm.specs.Namespaces.{is_base}
+use Rattle.schema_dm.specs.declared.table.Table.{Table}
 use Rattle.outside_dm.specs.Shelves.{Files, ShelfState, longest}
 use Rattle.outside_dm.specs.Sinks.{SinkState}
-use Rattle.cmd_dm.specs.DirectGraph.{IsGraphText}
+use Rattle.table_csv.specs.Cells.{Row}
+use Rattle.table_csv.specs.Databases.{Data}
+use Rattle.keys_dm.specs.Violations.{ViolatesAt}
+use Rattle.keys_dm.specs.declared.violation.Violation.{Violation}
+use Rattle.graphs_dm.specs.DirectGraph.{IsDirectText}
+use Rattle.cmd_dm.specs.Check.{check_script, check_text}
 use Rattle.cmd_dm.specs.Direct.{direct_script}
-use Rattle.cmd_dm.specs.Ending.{Ends, NoFault}
-use Rattle.cmd_dm.specs.FirstRows.{IsFirstRows}
-use Rattle.cmd_dm.specs.FirstSchema.{IsFirstSchema}
+use Rattle.cmd_dm.specs.Ending.{Ends, NoFault, Target, to_output}
 use Rattle.cmd_dm.specs.Folder.{schema_file, table_file}
-use Rattle.cmd_dm.specs.Headline.{HoldsFile, WritesGraph}
-use Rattle.cmd_dm.specs.Plans.{IsOutcome, NamesFile, plan_of}
-use Rattle.cmd_dm.specs.Levels.{direct_levels}
-use Rattle.cmd_dm.specs.LevelTexts.{text_of}
-use Rattle.cmd_dm.proofs.DirectLevels.{direct_text}
-use Rattle.cmd_dm.specs.Questions.{not_yet, Question, TextRows, AnswerTo, Answers, IsSchemaAnswer, IsRowsAnswer, schema_of, rows_of, graph_of}
-use Rattle.cmd_dm.specs.Script.{Script, Work, Outcome, usage, refused, absent, too_long, done, text_work, status_of, Comes, AfterLoad, MayLoad, load, ask, write, refuse}
-use Rattle.cmd_dm.specs.Steps.{bad_base, base_step, schema_step, rows_step, on_answer}
+use Rattle.cmd_dm.specs.Headline.{HoldsTables, HoldsDatabase, EndsSo, WritesText, MapsDirectly, Checks}
+use Rattle.cmd_dm.specs.Plans.{IsOutcome, NamesFile, folder_file, plan_of}
+use Rattle.cmd_dm.specs.Questions.{violations_of, direct_of}
+use Rattle.cmd_dm.specs.Reasons.{bad_base, key_reason}
+use Rattle.cmd_dm.specs.Script.{Script, Work, Outcome, usage, refused, done, text_work, too_long, status_of, Comes, AfterLoad, MayLoad, ask, write, refuse}
+use Rattle.cmd_dm.specs.Steps.{base_step, schema_step, rows_step, tables_step, database_step, keys_step, on_answer, on_violations}
 use Rattle.cmd_dm.proofs.Endings.{ends_exact, status_comes}
-use Rattle.cmd_dm.proofs.Outcomes.{outcome_unique}
-use Rattle.cmd_dm.proofs.FirstSchemaLemmas.{IsFirstSchema-unique}
-use Rattle.cmd_dm.proofs.FirstRowsLemmas.{IsFirstRows-unique}
+use Rattle.cmd_dm.proofs.Outcomes.{outcome_unique, schema_answer_unique, rows_answer_unique}
 use Rattle.cmd_dm.specs.declared.command.Command.{Command}
-use Rattle.cmd_dm.specs.declared.command.Command.TheVariants.{Direct}
-use Rattle.cmd_dm.specs.declared.first_schema.TextTable.{TextTable}
+use Rattle.cmd_dm.specs.declared.command.Command.TheVariants.{Direct, Check}
 use Rattle.cmd_dm.specs.declared.status.File.{File}
-use Rattle.cmd_dm.specs.declared.status.File.TheVariants.{Schema, Table, Query, Graph, Pattern, More}
+use Rattle.cmd_dm.specs.declared.status.File.TheVariants.{Schema, Table as TableFile, Query, Graph, Pattern, More}
 use Rattle.cmd_dm.specs.declared.status.Reason.{Reason}
 use Rattle.cmd_dm.specs.declared.status.Status.{Status}
 use Rattle.cmd_dm.specs.declared.status.Status.TheVariants.{Usage, ReadFault, Memory}
@@ -39,34 +41,6 @@ pub words_unique : (files : Files) (command : Option Command) (o p : Outcome) �
 words_unique files None o p h k = h ∙ sym k
 words_unique files (Some command) o p h k = outcome_unique files (plan_of command).script o p h k
 
--- some answer to each question is right
-some_answer : (question : Question) → ¬ ((answer : AnswerTo question) → ¬ Answers question answer)
-some_answer (schema_of bytes) none = none (Err not_yet) (refl, λ table is. none (Ok table) is)
-some_answer (rows_of table bytes) none = none (Err not_yet) (refl, λ rows is. none (Ok rows) is)
-some_answer (graph_of base table rows) none = none (text_of (direct_levels base table rows)) (direct_text base table rows)
-
-some_loaded : (file : File) (content : Option (List ℕ)) (rest : List ℕ → Outcome → Type 0) →
-    ((bytes : List ℕ) → ¬ ((o : Outcome) → ¬ rest bytes o)) → ¬ ((o : Outcome) → ¬ AfterLoad file content (λ bytes. rest bytes o) o)
-some_loaded file None rest some none = none (absent file) refl
-some_loaded file (Some bytes) rest some none =
-    elim (nat_lt longest (length bytes)) as (λ b. ((o : Outcome) → ¬ MatchBool b (o ≡ too_long file) (rest bytes o)) → ⊥) [
-      | true ↦ λ none. none (too_long file) refl
-      | false ↦ λ none. some bytes none
-    ] none
-
-some_outcome : (files : Files) (script : Script) → ¬ ((o : Outcome) → ¬ Comes files script o)
-some_outcome files (load file name next) none =
-    some_loaded file (get files name) (λ bytes o. Comes files (next bytes) o) (λ bytes. some_outcome files (next bytes)) none
-some_outcome files (ask question next) none =
-    some_answer question (λ answer right. some_outcome files (next answer) (λ o comes. none o (answer, (right, comes))))
-some_outcome files (refuse reason) none = none (refused reason) refl
-some_outcome files (write work) none = none (done work) refl
-
--- something comes of words
-pub words_some : (files : Files) (command : Option Command) → ¬ ((o : Outcome) → ¬ IsOutcome files command o)
-words_some files None none = none usage refl
-words_some files (Some command) none = some_outcome files (plan_of command).script none
-
 -- without a fault a run ends with what comes of its words
 pub words_exact : (words : Option Command) (status : Status) {s t : ShelfState} {o p : SinkState} (files : Files) (outcome : Outcome) →
     (words ≡ None → status ≡ Usage) →
@@ -75,52 +49,83 @@ pub words_exact : (words : Option Command) (status : Status) {s t : ShelfState} 
 words_exact None status files outcome none ends told comes calm = inl (none refl ∙ ap status_of (sym comes))
 words_exact (Some command) status files outcome none ends told comes calm = ends_exact (ends command refl) files outcome told comes calm
 
+-- and unless memory ran out, something comes of them
+pub words_come : (words : Option Command) (status : Status) {s t : ShelfState} {o p : SinkState} (files : Files) →
+    ((command : Command) → words ≡ Some command → Ends (plan_of command).target (plan_of command).script s t o p status) →
+    s.files ≡ Some files → NoFault s t o p → ((outcome : Outcome) × IsOutcome files words outcome) ⊎ (status ≡ Memory)
+words_come None status files ends told calm = inl (usage, refl)
+words_come (Some command) status files ends told calm = elim (status_comes _ _ _ _ _ _ _ (ends command refl) files told calm) [
+  | inl h ↦ inl (h.0, h.1.0)
+  | inr memory ↦ inr memory
+]
+
 -- ---- the names of files
-
--- the parts of `direct`'s script
-abbrev graph_script : List ℕ → TextTable → TextRows → Script
-graph_script base table rows = ask (graph_of base table rows) (λ text. write (text_work text))
-
-abbrev table_script : List ℕ → List ℕ → TextTable → Script
-table_script base folder table = load (Table 1) (table_file folder table.name) (λ bytes. rows_step table bytes (λ rows. graph_script base table rows))
-
-abbrev schema_script : List ℕ → List ℕ → Script
-schema_script base folder = load Schema (schema_file folder) (λ bytes. schema_step bytes (λ table. table_script base folder table))
 
 base_may_load : (good : Bool) (on : Script) (file : File) (name : List ℕ) → MayLoad (cond good on (refuse bad_base)) file name → MayLoad on file name
 base_may_load true on file name h = h
 base_may_load false on file name h = absurd h
 
-rows_may_load : (base : List ℕ) (table : TextTable) (answer : Result TextRows Reason) (file : File) (name : List ℕ) →
-    ¬ MayLoad (on_answer answer (λ rows. graph_script base table rows)) file name
-rows_may_load base table (Ok rows) file name h = h.1.1
-rows_may_load base table (Err reason) file name h = h
+-- behind an answer only what is next behind its value is loaded
+answer_may_load : {A : Type 0} (answer : Result A Reason) (next : A → Script) (file : File) (name : List ℕ) (P : Type 0) → ((value : A) → MayLoad (next value) file name → P) →
+    MayLoad (on_answer answer next) file name → P
+answer_may_load (Ok value) next file name P goes h = goes value h
+answer_may_load (Err reason) next file name P goes h = absurd h
 
--- behind the load of the schema table 1 alone is loaded
-table_may_load : (base folder : List ℕ) (answer : Result TextTable Reason) (file : File) (name : List ℕ) →
-    MayLoad (on_answer answer (λ table. table_script base folder table)) file name → Table 1 ≡ file
-unfolding rows_step
-table_may_load base folder (Ok table) file name (inl h) = h.0
-table_may_load base folder (Ok table) file name (inr h) = absurd (rows_may_load base table h.1.1.0 file name h.1.1.1.1)
-table_may_load base folder (Err reason) file name h = absurd h
+-- the files of tables alone are loaded
+tables_may_load : (folder : List ℕ) (mode : NullMode) (before : ℕ) (tables : List Table) (next : List (List Row) → Script) (file : File) (name : List ℕ) →
+    ((rows : List (List Row)) → ¬ MayLoad (next rows) file name) → MayLoad (tables_step folder mode before tables next) file name → (number : ℕ) × (TableFile number ≡ file)
+unfolding tables_step rows_step
+tables_may_load folder mode before [] next file name none h = absurd (none [] h)
+tables_may_load folder mode before (table ∷ tables) next file name none (inl h) = (before + 1, h.0)
+tables_may_load folder mode before (table ∷ tables) next file name none (inr h) =
+    answer_may_load h.1.1.0 (λ rows. tables_step folder mode (before + 1) tables (λ others. next (rows ∷ others))) file name ((number : ℕ) × (TableFile number ≡ file))
+    (λ rows. tables_may_load folder mode (before + 1) tables (λ others. next (rows ∷ others)) file name (λ others. none (rows ∷ others))) h.1.1.1.1
 
-schema_may_load : (base folder : List ℕ) (name : List ℕ) → MayLoad (schema_script base folder) Schema name → name ≡ schema_file folder
-unfolding schema_step
-schema_may_load base folder name (inl h) = sym h.1
-schema_may_load base folder name (inr h) = absurd (cc (table_may_load base folder h.1.1.0 Schema name h.1.1.1.1))
+database_may_load : (folder : List ℕ) (mode : NullMode) (next : Data → Script) (name : List ℕ) →
+    ((D : Data) → ¬ MayLoad (next D) Schema name) → MayLoad (database_step folder mode next) Schema name → name ≡ schema_file folder
+unfolding database_step schema_step
+database_may_load folder mode next name none (inl h) = sym h.1
+database_may_load folder mode next name none (inr h) =
+    answer_may_load h.1.1.0 (λ tables. tables_step folder mode 0 tables (λ rows. next (record { tables = tables; rows = rows }))) Schema name (name ≡ schema_file folder)
+    (λ tables k.
+    let table = tables_may_load folder mode 0 tables (λ rows. next (record { tables = tables; rows = rows })) Schema name (λ rows. none (record { tables = tables; rows = rows })) k in
+    absurd (no_schema table.0 table.1)) h.1.1.1.1
+  where
+    no_schema : (number : ℕ) → TableFile number ≡ Schema → ⊥
+    no_schema number e = absurd cc
 
--- a file that `direct` loads by a name that the words alone give
-direct_names : (base folder : List ℕ) (file : File) (name : List ℕ) → MayLoad (direct_script base folder) file name → NamesFile (Direct base folder) file name
-unfolding base_step
-direct_names base folder Schema name h = schema_may_load base folder name (base_may_load (is_base base) (schema_script base folder) Schema name h)
-direct_names base folder (Table number) name h = tt
-direct_names base folder Query name h = tt
-direct_names base folder Graph name h = tt
-direct_names base folder Pattern name h = tt
-direct_names base folder (More number) name h = tt
+folder_names : (folder : List ℕ) (mode : NullMode) (next : Data → Script) (file : File) (name : List ℕ) →
+    ((D : Data) (file : File) → ¬ MayLoad (next D) file name) → MayLoad (database_step folder mode next) file name → IfSome (folder_file folder file) (λ named. name ≡ named)
+folder_names folder mode next Schema name none h = database_may_load folder mode next name (λ D. none D Schema) h
+folder_names folder mode next (TableFile number) name none h = tt
+folder_names folder mode next Query name none h = tt
+folder_names folder mode next Graph name none h = tt
+folder_names folder mode next Pattern name none h = tt
+folder_names folder mode next (More number) name none h = tt
+
+-- what `direct` does behind the database
+abbrev graph_script : List ℕ → Data → Script
+graph_script base D = ask (direct_of base D) (λ text. write (text_work text))
+
+keys_load_nothing : (D : Data) (base : List ℕ) (file : File) (name : List ℕ) → ¬ MayLoad (keys_step D (λ _. graph_script base D)) file name
+unfolding keys_step
+keys_load_nothing D base file name h = by_found h.0 h.1.1
+  where
+    by_found : (found : List Violation) → ¬ MayLoad (on_violations found (λ _. graph_script base D)) file name
+    by_found [] h = h.1.1
+    by_found (violation ∷ others) h = h
+
+abbrev mapped : List ℕ → Data → Script
+mapped base D = keys_step D (λ _. graph_script base D)
+
+abbrev checked : Data → Script
+checked D = ask (violations_of D) (λ found. write (text_work (check_text D.tables found)))
 
 command_names : (command : Command) (file : File) (name : List ℕ) → MayLoad (plan_of command).script file name → NamesFile command file name
-command_names (Direct base folder) file name h = direct_names base folder file name h
+unfolding base_step
+command_names (Direct base folder nulls) file name h =
+    folder_names folder nulls (mapped base) file name (λ D file. keys_load_nothing D base file name) (base_may_load (is_base base) (database_step folder nulls (mapped base)) file name h)
+command_names (Check folder nulls) file name h = folder_names folder nulls checked file name (λ D file h. h.1.1) h
 
 -- the file at which the shelf failed is the one that was told
 pub names_failed : (command : Command) (file : File) {s t : ShelfState} {o p : SinkState} (status : Status) →
@@ -137,54 +142,86 @@ after_load file content bytes rest outcome held short h =
     let there : AfterLoad file (Some bytes) rest outcome = subst (λ (c : Option (List ℕ)). AfterLoad file c rest outcome) held h in
     subst (λ (b : Bool). MatchBool b (outcome ≡ too_long file) (rest bytes)) (le-ltb longest (length bytes) short) there
 
-schema_answer : (files : Files) (bytes : List ℕ) (table : TextTable) (next : TextTable → Script) (outcome : Outcome) (answer : Result TextTable Reason) →
-    IsFirstSchema bytes table → IsSchemaAnswer bytes answer → Comes files (on_answer answer next) outcome → Comes files (next table) outcome
-schema_answer files bytes table next outcome (Ok other) is right h = subst (λ (t : TextTable). Comes files (next t) outcome) (IsFirstSchema-unique bytes other table right is) h
-schema_answer files bytes table next outcome (Err reason) is right h = absurd (right.1 table is)
+-- an answer that is known is the one that was given
+on_known : {A : Type 0} (files : Files) (answer : Result A Reason) (value : A) (next : A → Script) (outcome : Outcome) →
+    answer ≡ Ok value → Comes files (on_answer answer next) outcome → Comes files (next value) outcome
+on_known files answer value next outcome is h = subst (λ (a : Result _ Reason). Comes files (on_answer a next) outcome) is h
 
-rows_answer : (files : Files) (bytes : List ℕ) (table : TextTable) (rows : TextRows) (next : TextRows → Script) (outcome : Outcome) (answer : Result TextRows Reason) →
-    IsFirstRows table bytes rows → IsRowsAnswer table bytes answer → Comes files (on_answer answer next) outcome → Comes files (next rows) outcome
-rows_answer files bytes table rows next outcome (Ok other) is right h = subst (λ (r : TextRows). Comes files (next r) outcome) (IsFirstRows-unique table bytes other rows right is) h
-rows_answer files bytes table rows next outcome (Err reason) is right h = absurd (right.1 rows is)
+tables_come : (files : Files) (folder : List ℕ) (mode : NullMode) (before : ℕ) (tables : List Table) (rows : List (List Row)) (next : List (List Row) → Script) (outcome : Outcome) →
+    HoldsTables files folder mode tables rows → Comes files (tables_step folder mode before tables next) outcome → Comes files (next rows) outcome
+unfolding tables_step rows_step
+tables_come files folder mode before [] [] next outcome held h = h
+tables_come files folder mode before [] (r ∷ rows) next outcome held h = absurd held
+tables_come files folder mode before (table ∷ tables) [] next outcome held h = absurd held
+tables_come files folder mode before (table ∷ tables) (r ∷ rows) next outcome held h =
+    let step : List Row → Script = λ found. tables_step folder mode (before + 1) tables (λ others. next (found ∷ others)) in
+    let asked = after_load (TableFile (before + 1)) (get files (table_file folder table.name)) held.0.bytes (λ bytes. Comes files (rows_step table.columns mode (before + 1) bytes step) outcome) outcome
+    held.0.holds.held held.0.holds.short h in
+    let right = rows_answer_unique table.columns mode (before + 1) held.0.bytes asked.0 (Ok r) asked.1.0.0 asked.1.0.1 held.0.reads in
+    tables_come files folder mode (before + 1) tables rows (λ others. next (r ∷ others)) outcome held.1 (on_known files asked.0 r step outcome right asked.1.1)
 
--- from well-formed files `direct` comes to the text of the graph
-direct_comes : (base folder : List ℕ) (files : Files) (schema_bytes table_bytes : List ℕ) (table : TextTable) (rows : TextRows) →
-    IsTrue (is_base base) →
-    HoldsFile files (schema_file folder) schema_bytes → IsFirstSchema schema_bytes table →
-    HoldsFile files (table_file folder table.name) table_bytes → IsFirstRows table table_bytes rows →
-    (outcome : Outcome) → Comes files (direct_script base folder) outcome → (text : List ℕ) × (IsGraphText base table rows text × (outcome ≡ done (text_work text)))
-unfolding base_step schema_step rows_step
-direct_comes base folder files schema_bytes table_bytes table rows good schema_held schema table_held table_rows outcome h =
-    let loads : Comes files (schema_script base folder) outcome = subst (λ (b : Bool). Comes files (cond b (schema_script base folder) (refuse bad_base)) outcome) good h in
-    let asked = after_load Schema (get files (schema_file folder)) schema_bytes (λ bytes. Comes files (schema_step bytes (λ table. table_script base folder table)) outcome) outcome
-    schema_held.held schema_held.short loads in
-    let read : Comes files (table_script base folder table) outcome =
-    schema_answer files schema_bytes table (λ table. table_script base folder table) outcome asked.0 schema asked.1.0 asked.1.1 in
-    let asked_rows = after_load (Table 1) (get files (table_file folder table.name)) table_bytes (λ bytes. Comes files (rows_step table bytes (λ rows. graph_script base table rows)) outcome) outcome
-    table_held.held table_held.short read in
-    rows_answer files table_bytes table rows (λ rows. graph_script base table rows) outcome asked_rows.0 table_rows asked_rows.1.0 asked_rows.1.1
+-- the folder's database is the one that its files are
+database_comes : (files : Files) (folder : List ℕ) (mode : NullMode) (D : Data) (next : Data → Script) (outcome : Outcome) →
+    HoldsDatabase files folder mode D → Comes files (database_step folder mode next) outcome → Comes files (next D) outcome
+unfolding database_step schema_step
+database_comes files folder mode D next outcome held h =
+    let step : List Table → Script = λ tables. tables_step folder mode 0 tables (λ rows. next (record { tables = tables; rows = rows })) in
+    let asked = after_load Schema (get files (schema_file folder)) held.bytes (λ bytes. Comes files (schema_step bytes step) outcome) outcome held.holds.held held.holds.short h in
+    let right = schema_answer_unique held.bytes asked.0 (Ok D.tables) asked.1.0 held.reads in
+    tables_come files folder mode 0 D.tables D.rows (λ rows. next (record { tables = D.tables; rows = rows })) outcome held.tables
+    (on_known files asked.0 D.tables step outcome right asked.1.1)
 
--- what a run writes whose script comes to the graph's text
-pub writes_graph : (base folder : List ℕ) (files : Files) (schema_bytes table_bytes : List ℕ) (table : TextTable) (rows : TextRows) {s t : ShelfState} {o p : SinkState} (status : Status) →
-    Ends (plan_of (Direct base folder)).target (plan_of (Direct base folder)).script s t o p status → s.files ≡ Some files →
-    IsTrue (is_base base) →
-    HoldsFile files (schema_file folder) schema_bytes → IsFirstSchema schema_bytes table →
-    HoldsFile files (table_file folder table.name) table_bytes → IsFirstRows table table_bytes rows →
-    WritesGraph base table rows s t o p status
-writes_graph base folder files schema_bytes table_bytes table rows {s = s} {t = t} {o = o} {p = p} status ends told good schema_held schema table_held table_rows =
-    let comes = direct_comes base folder files schema_bytes table_bytes table rows good schema_held schema table_held table_rows in
-    record {
-      no_fault = λ calm. elim (status_comes _ _ _ _ _ _ _ ends files told calm) [
-        | inl h ↦ inl (h.1.1 ∙ ap status_of (comes h.0 h.1.0).1.1)
-        | inr memory ↦ inr memory
-      ];
-      written = λ well.
-          let at = subst (λ (x : Status). Ends (plan_of (Direct base folder)).target (plan_of (Direct base folder)).script s t o p x) well ends in
-          let work = at.means files told in
-          let graph = comes (done work.0) work.1.0 in
-          let same : work.0.text ≡ graph.0 = ap (λ (w : Work). w.text) (done_one work.0 (text_work graph.0) graph.1.1) in
-          (graph.0, (graph.1.0, subst (λ (text : List ℕ). Appends o.held p.held text) same work.1.1.text));
-    }
+-- ---- what is written
+
+ends_so : {target : Target} {script : Script} {s t : ShelfState} {o p : SinkState} {status : Status} (files : Files) (outcome : Outcome) → Ends target script s t o p status → s.files ≡ Some files →
+    ((other : Outcome) → Comes files script other → other ≡ outcome) → EndsSo (status_of outcome) s t o p status
+ends_so files outcome ends told comes = λ calm. elim (status_comes _ _ _ _ _ _ _ ends files told calm) [
+  | inl h ↦ inl (h.1.1 ∙ ap status_of (comes h.0 h.1.0))
+  | inr memory ↦ inr memory
+]
+
+-- a run writes such a text whose script comes to one
+writes_text : (IsText : List ℕ → Type 0) (script : Script) {s t : ShelfState} {o p : SinkState} (status : Status) (files : Files) → Ends to_output script s t o p status → s.files ≡ Some files →
+    ((outcome : Outcome) → Comes files script outcome → (text : List ℕ) × (IsText text × (outcome ≡ done (text_work text)))) → WritesText IsText s t o p status
+writes_text IsText script {s = s} {t = t} {o = o} {p = p} status files ends told comes = record {
+  no_fault = λ calm. elim (status_comes _ _ _ _ _ _ _ ends files told calm) [
+    | inl h ↦ inl (h.1.1 ∙ ap status_of (comes h.0 h.1.0).1.1)
+    | inr memory ↦ inr memory
+  ];
+  written = λ well.
+      let at = subst (λ (x : Status). Ends to_output script s t o p x) well ends in
+      let work = at.means files told in
+      let found = comes (done work.0) work.1.0 in
+      let same : work.0.text ≡ found.0 = ap (λ (w : Work). w.text) (done_one work.0 (text_work found.0) found.1.1) in
+      (found.0, (found.1.0, subst (λ (text : List ℕ). Appends o.held p.held text) same work.1.1.text));
+}
   where
     done_one : (v w : Work) → ◌≡◌ {A = Outcome} (done v) (done w) → v ≡ w
     done_one v w e = cc
+
+-- from well-formed files `direct` comes to the step that looks at the keys
+direct_comes : (base folder : List ℕ) (nulls : NullMode) (files : Files) (D : Data) (found : List Violation) → IsTrue (is_base base) → HoldsDatabase files folder nulls D → IsListing (ViolatesAt D) found →
+    (outcome : Outcome) → Comes files (direct_script base folder nulls) outcome → Comes files (on_violations found (λ _. graph_script base D)) outcome
+unfolding base_step keys_step
+direct_comes base folder nulls files D found good held listed outcome h =
+    let loads : Comes files (database_step folder nulls (mapped base)) outcome =
+    subst (λ (b : Bool). Comes files (cond b (database_step folder nulls (mapped base)) (refuse bad_base)) outcome) good h in
+    let asked = database_comes files folder nulls D (mapped base) outcome held loads in
+    subst (λ (v : List Violation). Comes files (on_violations v (λ _. graph_script base D)) outcome) (listing_unique (ViolatesAt D) asked.0 found asked.1.0 listed) asked.1.1
+
+pub maps_directly : (base folder : List ℕ) (nulls : NullMode) (files : Files) (D : Data) (found : List Violation) {s t : ShelfState} {o p : SinkState} (status : Status) →
+    Ends (plan_of (Direct base folder nulls)).target (plan_of (Direct base folder nulls)).script s t o p status → s.files ≡ Some files →
+    IsTrue (is_base base) → HoldsDatabase files folder nulls D → IsListing (ViolatesAt D) found → MapsDirectly base D found s t o p status
+maps_directly base folder nulls files D [] status ends told good held listed =
+    writes_text (IsDirectText base D) (direct_script base folder nulls) status files ends told (λ outcome h. direct_comes base folder nulls files D [] good held listed outcome h)
+maps_directly base folder nulls files D (violation ∷ others) status ends told good held listed =
+    ends_so files (refused (key_reason violation)) ends told (λ outcome h. direct_comes base folder nulls files D (violation ∷ others) good held listed outcome h)
+
+pub checks : (folder : List ℕ) (nulls : NullMode) (files : Files) (D : Data) (found : List Violation) {s t : ShelfState} {o p : SinkState} (status : Status) →
+    Ends (plan_of (Check folder nulls)).target (plan_of (Check folder nulls)).script s t o p status → s.files ≡ Some files →
+    HoldsDatabase files folder nulls D → IsListing (ViolatesAt D) found → Checks D found s t o p status
+checks folder nulls files D found status ends told held listed =
+    writes_text (λ text. text ≡ check_text D.tables found) (check_script folder nulls) status files ends told (λ outcome h.
+    let asked = database_comes files folder nulls D checked outcome held h in
+    let same = listing_unique (ViolatesAt D) asked.0 found asked.1.0 listed in
+    (check_text D.tables asked.0, (ap (check_text D.tables) same, asked.1.1)))

@@ -62,7 +62,6 @@ causes =
     (48, codes "TooNested") ∷
     (50, codes "BatchKeyViolated") ∷
     (51, codes "BatchUniqueViolated") ∷
-    (60, codes "NotYet") ∷
     []
 
 -- the name that stands beside this code, or nothing

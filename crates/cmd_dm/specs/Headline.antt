@@ -1,23 +1,62 @@
 -- What the program promises of its commands, for files that are well-formed.
-use Rattle.std.specs.Prelude.{◌≡◌, ◌⊎◌, ℕ, ◌≤◌, List, length, Some}
+use Rattle.std.specs.Prelude.{◌≡◌, ◌⊎◌, ℕ, ◌≤◌, List, [], ◌∷◌, length, Some}
 use Rattle.std.specs.Io.KnownBytes.{Appends}
 use Rattle.std.specs.FinMap.{get}
+use Rattle.value_dm.specs.declared.mode.NullMode.{NullMode}
+use Rattle.schema_dm.specs.declared.table.Table.{Table}
 use Rattle.outside_dm.specs.Shelves.{Files, ShelfState, longest}
 use Rattle.outside_dm.specs.Sinks.{SinkState}
-use Rattle.cmd_dm.specs.DirectGraph.{IsGraphText}
+use Rattle.ddl_dm.specs.Schema.{IsDdl}
+use Rattle.table_csv.specs.Cells.{Row}
+use Rattle.table_csv.specs.Databases.{Data}
+use Rattle.table_csv.specs.TableFiles.{IsTableFile}
+use Rattle.keys_dm.specs.declared.violation.Violation.{Violation}
+use Rattle.graphs_dm.specs.DirectGraph.{IsDirectText}
+use Rattle.cmd_dm.specs.Check.{check_text}
 use Rattle.cmd_dm.specs.Ending.{NoFault}
-use Rattle.cmd_dm.specs.Questions.{TextRows}
-use Rattle.cmd_dm.specs.declared.first_schema.TextTable.{TextTable}
+use Rattle.cmd_dm.specs.Folder.{schema_file, table_file}
+use Rattle.cmd_dm.specs.Reasons.{key_reason}
 use Rattle.cmd_dm.specs.declared.status.Status.{Status}
-use Rattle.cmd_dm.specs.declared.status.Status.TheVariants.{Ok as Done, Memory}
+use Rattle.cmd_dm.specs.declared.status.Status.TheVariants.{Ok as Done, Refused, Memory}
 
 -- the files have this file, and it is no longer than a load takes
 pub record HoldsFile (files : Files) (name bytes : List ℕ) : Type 0 where
   pub held : get files name ≡ Some bytes
   pub short : length bytes ≤ longest
 
+-- the file of a table is there and is one of these rows
+pub record HoldsTable (files : Files) (folder : List ℕ) (mode : NullMode) (table : Table) (rows : List Row) : Type 0 where
+  pub bytes : List ℕ
+  pub holds : HoldsFile files (table_file folder table.name) bytes
+  pub reads : IsTableFile table.columns mode bytes rows
+
+abbrev pub HoldsTables : Files → List ℕ → NullMode → List Table → List (List Row) → Type 0
+HoldsTables files folder mode [] [] = Unit {0}
+HoldsTables files folder mode (table ∷ tables) (rows ∷ others) = HoldsTable files folder mode table rows × HoldsTables files folder mode tables others
+HoldsTables files folder mode _ _ = ⊥
+
+-- the files of a folder are there and are this database
+pub record HoldsDatabase (files : Files) (folder : List ℕ) (mode : NullMode) (D : Data) : Type 0 where
+  pub bytes : List ℕ
+  pub holds : HoldsFile files (schema_file folder) bytes
+  pub reads : IsDdl bytes D.tables
+  pub tables : HoldsTables files folder mode D.tables D.rows
+
+-- without a fault the run ends with this status or for want of memory
+abbrev pub EndsSo : Status → ShelfState → ShelfState → SinkState → SinkState → Status → Type 0
+EndsSo wanted old new before after status = NoFault old new before after → (status ≡ wanted) ⊎ (status ≡ Memory)
+
 -- without a fault the run ends well or for want of memory; and where it ends well, the output holds what it held, followed by
--- the text of the direct graph
-pub record WritesGraph (base : List ℕ) (table : TextTable) (rows : TextRows) (old new : ShelfState) (before after : SinkState) (status : Status) : Type 0 where
-  pub no_fault : NoFault old new before after → (status ≡ Done) ⊎ (status ≡ Memory)
-  pub written : status ≡ Done → (text : List ℕ) × (IsGraphText base table rows text × Appends before.held after.held text)
+-- the text that is such
+pub record WritesText (IsText : List ℕ → Type 0) (old new : ShelfState) (before after : SinkState) (status : Status) : Type 0 where
+  pub no_fault : EndsSo Done old new before after status
+  pub written : status ≡ Done → (text : List ℕ) × (IsText text × Appends before.held after.held text)
+
+-- no key is violated: the text of the direct graph is written; else without a fault the run is refused for the first violation
+abbrev pub MapsDirectly : List ℕ → Data → List Violation → ShelfState → ShelfState → SinkState → SinkState → Status → Type 0
+MapsDirectly base D [] old new before after status = WritesText (IsDirectText base D) old new before after status
+MapsDirectly base D (violation ∷ others) old new before after status = EndsSo (Refused (key_reason violation)) old new before after status
+
+-- the lines of the violations, which are all in order, and of their count are written
+abbrev pub Checks : Data → List Violation → ShelfState → ShelfState → SinkState → SinkState → Status → Type 0
+Checks D found old new before after status = WritesText (λ text. text ≡ check_text D.tables found) old new before after status

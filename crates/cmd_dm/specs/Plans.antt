@@ -1,30 +1,33 @@
 -- The commands: each as a script, with the devices that it writes to.
 use Rattle.std.specs.Prelude.{◌≡◌, ℕ, List, Option, Some, None, IfSome}
 use Rattle.outside_dm.specs.Shelves.{Files}
+use Rattle.cmd_dm.specs.Check.{check_script}
 use Rattle.cmd_dm.specs.Direct.{direct_script}
 use Rattle.cmd_dm.specs.Folder.{schema_file}
 use Rattle.cmd_dm.specs.Ending.{Target, to_output}
 use Rattle.cmd_dm.specs.Script.{Script, Outcome, usage, Comes}
 use Rattle.cmd_dm.specs.declared.status.File.{File}
-use Rattle.cmd_dm.specs.declared.status.File.TheVariants.{Schema, Table, Query, Graph, Pattern, More}
+use Rattle.cmd_dm.specs.declared.status.File.TheVariants.{Schema}
 use Rattle.cmd_dm.specs.declared.command.Command.{Command}
-use Rattle.cmd_dm.specs.declared.command.Command.TheVariants.{Direct}
+use Rattle.cmd_dm.specs.declared.command.Command.TheVariants.{Direct, Check}
 
 pub record Plan : Type 0 where
   pub target : Target
   pub script : Script
 
 abbrev pub plan_of : Command → Plan
-plan_of (Direct base folder) = record { target = to_output; script = direct_script base folder }
+plan_of (Direct base folder nulls) = record { target = to_output; script = direct_script base folder nulls }
+plan_of (Check folder nulls) = record { target = to_output; script = check_script folder nulls }
+
+-- the schema's file, where it is the file
+abbrev pub folder_file : List ℕ → File → Option (List ℕ)
+folder_file folder Schema = Some (schema_file folder)
+folder_file folder _ = None
 
 -- the names of the files that the words alone name
 abbrev pub file_of : Command → File → Option (List ℕ)
-file_of (Direct base folder) Schema = Some (schema_file folder)
-file_of (Direct base folder) (Table number) = None
-file_of (Direct base folder) Query = None
-file_of (Direct base folder) Graph = None
-file_of (Direct base folder) Pattern = None
-file_of (Direct base folder) (More number) = None
+file_of (Direct base folder nulls) file = folder_file folder file
+file_of (Check folder nulls) file = folder_file folder file
 
 -- this is the name of the file, where the words alone name it
 abbrev pub NamesFile : Command → File → List ℕ → Type 0

@@ -1,41 +1,54 @@
--- What a command asks of the bytes that it loaded and of what they mean, and which answers are right. Each question has one
--- right answer.
+-- What a command asks of the bytes that it loaded and of what they mean, and which answers are right. No question has
+-- two right answers.
 use Rattle.std.specs.Prelude.{◌≡◌, ℕ, List, Result, Ok, Err}
-use Rattle.cmd_dm.specs.FirstSchema.{IsFirstSchema}
-use Rattle.cmd_dm.specs.FirstRows.{IsFirstRows}
-use Rattle.cmd_dm.specs.DirectGraph.{IsGraphText}
-use Rattle.cmd_dm.specs.declared.first_schema.TextTable.{TextTable}
+use Rattle.members_dm.specs.Membership.{NoRepeats}
+use Rattle.members_dm.specs.Places.{IsListing}
+use Rattle.value_dm.specs.declared.mode.NullMode.{NullMode}
+use Rattle.schema_dm.specs.Naming.{column_names}
+use Rattle.schema_dm.specs.declared.draft.Column.{Column}
+use Rattle.schema_dm.specs.declared.table.Table.{Table}
+use Rattle.ddl_dm.specs.declared.ddl.DdlError.{DdlError}
+use Rattle.ddl_dm.specs.Schema.{IsDdl, IsDdlFault}
+use Rattle.table_csv.specs.Cells.{Row}
+use Rattle.table_csv.specs.Databases.{Data}
+use Rattle.table_csv.specs.TableFiles.{IsFirstFault, IsTableFile, records_of}
+use Rattle.table_csv.specs.declared.fault.TableError.{TableError}
+use Rattle.keys_dm.specs.Violations.{ViolatesAt}
+use Rattle.keys_dm.specs.declared.violation.Violation.{Violation}
+use Rattle.graphs_dm.specs.DirectGraph.{IsDirectText}
+use Rattle.cmd_dm.specs.Reasons.{ddl_status, table_status}
 use Rattle.cmd_dm.specs.declared.status.Reason.{Reason}
-
--- the cells of a table, row by row
-abbrev pub TextRows : Type 0
-TextRows = List (List (List ℕ))
+use Rattle.cmd_dm.specs.declared.status.Status.TheVariants.{Refused}
 
 pub data Question : Type 0 where
+  -- the tables that the bytes declare
   schema_of : List ℕ → Question
-  rows_of : TextTable → List ℕ → Question
-  graph_of : List ℕ → TextTable → TextRows → Question
+  -- the rows that the bytes are, of the table with these columns, whose names differ, and with this number
+  rows_of : List Column → NullMode → ℕ → List ℕ → Question
+  -- all violated keys, in order
+  violations_of : Data → Question
+  -- the text of the direct graph
+  direct_of : List ℕ → Data → Question
 
 -- what an answer to the question is: a value, or why the bytes are refused
 abbrev pub AnswerTo : Question → Type 0
-AnswerTo (schema_of bytes) = Result TextTable Reason
-AnswerTo (rows_of table bytes) = Result TextRows Reason
-AnswerTo (graph_of base table rows) = List ℕ
+AnswerTo (schema_of bytes) = Result (List Table) Reason
+AnswerTo (rows_of columns mode number bytes) = Result (List Row) Reason
+AnswerTo (violations_of D) = List Violation
+AnswerTo (direct_of base D) = List ℕ
 
--- a form of input that isn't built yet
-abbrev pub not_yet : Reason
-not_yet = record { code = 60; table = 0; place = 0; column = 0 }
+abbrev pub IsSchemaAnswer : List ℕ → Result (List Table) Reason → Type 0
+IsSchemaAnswer bytes (Ok tables) = IsDdl bytes tables
+IsSchemaAnswer bytes (Err reason) = (error : DdlError) × IsDdlFault bytes error × (ddl_status error ≡ Refused reason)
 
-abbrev pub IsSchemaAnswer : List ℕ → Result TextTable Reason → Type 0
-IsSchemaAnswer bytes (Ok table) = IsFirstSchema bytes table
-IsSchemaAnswer bytes (Err reason) = (reason ≡ not_yet) × ((table : TextTable) → ¬ IsFirstSchema bytes table)
-
-abbrev pub IsRowsAnswer : TextTable → List ℕ → Result TextRows Reason → Type 0
-IsRowsAnswer table bytes (Ok rows) = IsFirstRows table bytes rows
-IsRowsAnswer table bytes (Err reason) = (reason ≡ not_yet) × ((rows : TextRows) → ¬ IsFirstRows table bytes rows)
+abbrev pub IsRowsAnswer : List Column → NullMode → ℕ → List ℕ → Result (List Row) Reason → Type 0
+IsRowsAnswer columns mode number bytes (Ok rows) = IsTableFile columns mode bytes rows
+IsRowsAnswer columns mode number bytes (Err reason) =
+    (error : TableError) × IsFirstFault columns mode (records_of bytes) error × (table_status number error ≡ Refused reason)
 
 -- the answer is right
 abbrev pub Answers : (question : Question) → AnswerTo question → Type 0
 Answers (schema_of bytes) answer = IsSchemaAnswer bytes answer
-Answers (rows_of table bytes) answer = IsRowsAnswer table bytes answer
-Answers (graph_of base table rows) text = IsGraphText base table rows text
+Answers (rows_of columns mode number bytes) answer = NoRepeats (column_names columns) × IsRowsAnswer columns mode number bytes answer
+Answers (violations_of D) found = IsListing (ViolatesAt D) found
+Answers (direct_of base D) text = IsDirectText base D text

@@ -1,9 +1,17 @@
 -- The steps of commands, each as a node of a script: what it puts before whatever is next.
-use Rattle.std.specs.Prelude.{ℕ, List, Result, Ok, Err, if◌then◌else◌}
+use Rattle.std.specs.Prelude.{ℕ, ◌+◌, List, [], ◌∷◌, Result, Ok, Err, if◌then◌else◌}
+use Rattle.value_dm.specs.declared.mode.NullMode.{NullMode}
 use Rattle.names_dm.specs.Namespaces.{is_base}
-use Rattle.cmd_dm.specs.Questions.{TextRows, schema_of, rows_of}
-use Rattle.cmd_dm.specs.Script.{Script, ask, refuse}
-use Rattle.cmd_dm.specs.declared.first_schema.TextTable.{TextTable}
+use Rattle.schema_dm.specs.declared.draft.Column.{Column}
+use Rattle.schema_dm.specs.declared.table.Table.{Table}
+use Rattle.table_csv.specs.Cells.{Row}
+use Rattle.table_csv.specs.Databases.{Data}
+use Rattle.keys_dm.specs.declared.violation.Violation.{Violation}
+use Rattle.cmd_dm.specs.Folder.{schema_file, table_file}
+use Rattle.cmd_dm.specs.Questions.{schema_of, rows_of, violations_of}
+use Rattle.cmd_dm.specs.Reasons.{bad_base, key_reason}
+use Rattle.cmd_dm.specs.Script.{Script, load, ask, refuse}
+use Rattle.cmd_dm.specs.declared.status.File.TheVariants as file
 use Rattle.cmd_dm.specs.declared.status.Reason.{Reason}
 
 -- goes on with the value, or refuses
@@ -11,17 +19,36 @@ abbrev pub on_answer : {A : Type 0} → Result A Reason → (A → Script) → S
 on_answer (Ok value) next = next value
 on_answer (Err reason) next = refuse reason
 
-abbrev pub bad_base : Reason
-bad_base = record { code = 26; table = 0; place = 0; column = 0 }
-
 -- the word is what IRIs can begin with
 unfoldable pub base_step : List ℕ → (List ℕ → Script) → Script
 base_step word next = if is_base word then next word else refuse bad_base
 
 -- the schema of the bytes
-unfoldable pub schema_step : List ℕ → (TextTable → Script) → Script
+unfoldable pub schema_step : List ℕ → (List Table → Script) → Script
 schema_step bytes next = ask (schema_of bytes) (λ answer. on_answer answer next)
 
--- the rows of the bytes of a table's file
-unfoldable pub rows_step : TextTable → List ℕ → (TextRows → Script) → Script
-rows_step table bytes next = ask (rows_of table bytes) (λ answer. on_answer answer next)
+-- the rows of the bytes of the file of the table with this number
+unfoldable pub rows_step : List Column → NullMode → ℕ → List ℕ → (List Row → Script) → Script
+rows_step columns mode number bytes next = ask (rows_of columns mode number bytes) (λ answer. on_answer answer next)
+
+-- the files of these tables, each loaded and read before the next; so many tables stand before them
+unfoldable pub tables_step : List ℕ → NullMode → ℕ → List Table → (List (List Row) → Script) → Script
+tables_step folder mode before [] next = next []
+tables_step folder mode before (table ∷ tables) next =
+    load (file.Table (before + 1)) (table_file folder table.name) (λ bytes.
+    rows_step table.columns mode (before + 1) bytes (λ rows.
+    tables_step folder mode (before + 1) tables (λ others. next (rows ∷ others))))
+
+-- the database in the folder: its schema, and then its tables
+unfoldable pub database_step : List ℕ → NullMode → (Data → Script) → Script
+database_step folder mode next =
+    load file.Schema (schema_file folder) (λ bytes. schema_step bytes (λ tables.
+    tables_step folder mode 0 tables (λ rows. next (record { tables = tables; rows = rows }))))
+
+-- goes on where no key is violated, or refuses for the first that is
+abbrev pub on_violations : List Violation → (Unit {0} → Script) → Script
+on_violations [] next = next tt
+on_violations (violation ∷ others) next = refuse (key_reason violation)
+
+unfoldable pub keys_step : Data → (Unit {0} → Script) → Script
+keys_step D next = ask (violations_of D) (λ found. on_violations found next)

@@ -57,7 +57,6 @@ pub(crate) fn cause_name(code: u8) -> &'static str
         48 => "TooNested",
         50 => "BatchKeyViolated",
         51 => "BatchUniqueViolated",
-        60 => "NotYet",
         _ => "",
     }
 }

@@ -1,4 +1,4 @@
-use value_dm::Text;
+use value_dm::{NullMode, Text};
 
 /// A command with its words.
 #[derive(Drop)]
@@ -10,5 +10,17 @@ pub enum Command {
 
         /// The folder with `schema.sql` and one CSV file a table.
         folder: Text,
+
+        /// `EmptyNull` where the word `empty-null` is given.
+        nulls: NullMode,
+    },
+
+    /// Writes a line for each violated key of the database in a folder, and their count.
+    Check {
+        /// The folder with `schema.sql` and one CSV file a table.
+        folder: Text,
+
+        /// `EmptyNull` where the word `empty-null` is given.
+        nulls: NullMode,
     },
 }

@@ -2,13 +2,12 @@ ghost use Rattle.std.specs.Prelude.{◌≡◌};
 ghost use Rattle.cmd_dm.specs.Direct.{direct_script};
 ghost use Rattle.cmd_dm.specs.Ending.{Ends, put_status, result_status, to_output};
 
-use crate::direct_graph::write_direct;
-use crate::folder::{load_schema, load_table};
 use crate::status::Status;
-use crate::steps::{read_base, read_rows, read_schema};
+use crate::steps::{check_keys, read_base, read_database};
+use graphs_dm::write_direct;
 use outside_dm::{PutError, Shelf, Sink};
 use std::alloc::Global;
-use value_dm::Text;
+use value_dm::{NullMode, Text};
 
 /// The result of a command that ended with these puts.
 pub(crate) fn end_of_puts(outcome: Result<(), PutError>) -> Result<(), Status>
@@ -26,15 +25,14 @@ pub(crate) fn run_direct<S: Shelf, K: Sink>(
     alloc: Global,
     base: &Text,
     folder: &Text,
+    nulls: NullMode,
     shelf: &mut S,
     out: &mut K,
 ) -> Result<(), Status>
-    ensures { Ends to_output (direct_script base.now folder.now) (S.state shelf.old) (S.state shelf.new) (K.state out.old) (K.state out.new) (result_status result) }
+    ensures { Ends to_output (direct_script base.now folder.now nulls) (S.state shelf.old) (S.state shelf.new) (K.state out.old) (K.state out.new) (result_status result) }
 {
     let base = read_base(alloc, base)?;
-    let bytes = load_schema(alloc, folder, shelf)?;
-    let table = read_schema(alloc, &bytes)?;
-    let bytes = load_table(alloc, folder, 1, &table.name, shelf)?;
-    let rows = read_rows(alloc, &table, &bytes)?;
-    end_of_puts(write_direct(alloc, &base, &table, &rows, out))
+    let database = read_database(alloc, folder, nulls, shelf)?;
+    check_keys(alloc, &database)?;
+    end_of_puts(write_direct(alloc, &base, &database, out))
 }

@@ -1,21 +1,27 @@
-ghost use Rattle.std.specs.Prelude.{◌≡◌};
+ghost use Rattle.std.specs.Prelude.{◌≡◌, ◌<◌, ◌^◌, ◌+◌, IfOk, length};
+ghost use Rattle.std.specs.List.{AllZip};
+ghost use Rattle.members_dm.specs.Membership.{NoRepeats};
+ghost use Rattle.schema_dm.specs.Naming.{column_names};
+ghost use Rattle.schema_dm.specs.Schemas.{IsSchema};
+ghost use Rattle.table_csv.specs.Cells.{AreRowsOf};
 ghost use Rattle.cmd_dm.specs.Ending.{Step, PureStep};
 ghost use Rattle.cmd_dm.specs.Script.{load};
-ghost use Rattle.cmd_dm.specs.Steps.{base_step, schema_step, rows_step};
+ghost use Rattle.cmd_dm.specs.Steps.{base_step, database_step, keys_step, rows_step, schema_step, tables_step};
 
-use crate::first_rows::{TextRows, read_first_rows};
-use crate::first_schema::{TextTable, read_first_schema};
+use crate::folder::{load_schema, load_table};
+use crate::reasons::{ddl_status, key_status, table_status};
 use crate::status::{File, Reason, Status};
+use ddl_dm::read_ddl;
+use keys_dm::violations;
 use names_dm::Base;
 use outside_dm::{LoadError, Shelf};
+use schema_dm::{Schema, Table};
 use std::alloc::Global;
-use value_dm::{Bytes, Text, TryCopy};
+use table_csv::{Database, Rows, RowsList, read_table};
+use value_dm::{Bytes, NullMode, Text, TryCopy};
 
 /// The code of a base that can't stand before names.
 const BAD_BASE: u8 = 26;
-
-/// The code of a form of input that isn't built yet.
-const NOT_YET: u8 = 60;
 
 /// Loads a file by its name as the next step.
 pub(crate) fn load_file<S: Shelf>(
@@ -49,22 +55,82 @@ pub(crate) fn read_base(alloc: Global, word: &Text) -> Result<Base, Status>
 
 /// Reads the schema as the next step.
 #[tactic(auto, unfolding(crate::specs::Steps::schema_step))]
-pub(crate) fn read_schema(alloc: Global, bytes: &Bytes) -> Result<TextTable, Status>
+fn read_schema(alloc: Global, bytes: &Bytes) -> Result<Schema, Status>
     ensures { PureStep (schema_step bytes.now) result }
 {
-    match read_first_schema(alloc, bytes.as_slice())? {
-        Some(table) => Ok(table),
-        None => Err(Status::Refused(Reason::of_code(NOT_YET))),
+    match read_ddl(alloc, bytes.as_slice()) {
+        Ok(schema) => Ok(schema),
+        Err(error) => Err(ddl_status(error)),
     }
 }
 
-/// Reads the rows of a table as the next step.
+/// Reads the rows of the table with this number, counted from 1, as the next step.
 #[tactic(auto, unfolding(crate::specs::Steps::rows_step))]
-pub(crate) fn read_rows(alloc: Global, table: &TextTable, bytes: &Bytes) -> Result<TextRows, Status>
-    ensures { PureStep (rows_step table.now bytes.now) result }
+fn read_rows(
+    alloc: Global,
+    table: &Table,
+    nulls: NullMode,
+    number: u64,
+    bytes: &Bytes,
+) -> Result<Rows, Status>
+    requires { NoRepeats (column_names table.now.columns) }
+    ensures step { PureStep (rows_step table.now.columns nulls number bytes.now) result }
+    ensures fit { IfOk result (λ rows. AreRowsOf table.now.columns rows) }
 {
-    match read_first_rows(alloc, table, bytes.as_slice())? {
-        Some(rows) => Ok(rows),
-        None => Err(Status::Refused(Reason::of_code(NOT_YET))),
+    match read_table(alloc, table, bytes.as_slice(), nulls) {
+        Ok(rows) => Ok(rows),
+        Err(error) => Err(table_status(number, error)),
+    }
+}
+
+/// Loads and reads the rows of all tables as the next steps.
+fn read_tables<S: Shelf>(
+    alloc: Global,
+    folder: &Text,
+    nulls: NullMode,
+    tables: &[Table],
+    shelf: &mut S,
+) -> Result<RowsList, Status>
+    requires { IsSchema tables.now }
+    ensures step { Step (tables_step folder.now nulls 0 tables.now) (S.state shelf.old) (S.state shelf.new) result }
+    ensures fit { IfOk result (λ rows. AllZip (λ table rows. AreRowsOf table.columns rows) tables.now rows) }
+{
+    let mut list = RowsList::new(alloc);
+    for (place, table) in tables.iter().enumerate() {
+        let number = place as u64 + 1;
+        let bytes = load_table(alloc, folder, number, &table.name, shelf)?;
+        list.push(read_rows(alloc, table, nulls, number, &bytes)?)?;
+    }
+    Ok(list)
+}
+
+/// Loads and reads a folder's database as the next steps.
+#[tactic(auto, unfolding(crate::specs::Steps::database_step))]
+pub(crate) fn read_database<S: Shelf>(
+    alloc: Global,
+    folder: &Text,
+    nulls: NullMode,
+    shelf: &mut S,
+) -> Result<Database, Status>
+    ensures { Step (database_step folder.now nulls) (S.state shelf.old) (S.state shelf.new) result }
+{
+    let bytes = load_schema(alloc, folder, shelf)?;
+    let schema = read_schema(alloc, &bytes)?;
+    let rows = read_tables(alloc, folder, nulls, schema.tables(), shelf)?;
+    match Database::new(schema, rows) {
+        Some(database) => Ok(database),
+        None => unreachable!(),
+    }
+}
+
+/// Looks at the database's keys as the next step.
+#[tactic(auto, unfolding(crate::specs::Steps::keys_step))]
+pub(crate) fn check_keys(alloc: Global, database: &Database) -> Result<(), Status>
+    ensures { PureStep (keys_step database.now) result }
+{
+    let found = violations(alloc, database)?;
+    match found.as_slice() {
+        [] => Ok(()),
+        [first, ..] => Err(key_status(first)),
     }
 }

@@ -1,20 +1,21 @@
-ghost use Rattle.std.specs.Prelude.{◌≡◌, ◌⊎◌, ◌↔◌, ◌≤◌, ◌+◌, Some, None, List, ℕ, IsTrue, IfSome, length, map, string_bytes};
-ghost use Rattle.std.specs.FinMap.{get};
+ghost use Rattle.std.specs.Prelude.{◌≡◌, ◌⊎◌, ◌↔◌, Some, None, List, ℕ, IsTrue, map, string_bytes};
+ghost use Rattle.members_dm.specs.Places.{IsListing};
 ghost use Rattle.names_dm.specs.Namespaces.{is_base};
-ghost use Rattle.outside_dm.specs.Shelves.{Files, longest};
-ghost use Rattle.cmd_dm.specs.Ending.{Ends, NoFault, Untouched, result_status};
+ghost use Rattle.outside_dm.specs.Shelves.{Files};
+ghost use Rattle.value_dm.specs.declared.mode.NullMode.{NullMode};
+ghost use Rattle.table_csv.specs.Databases.{Data};
+ghost use Rattle.keys_dm.specs.Violations.{ViolatesAt};
+ghost use Rattle.keys_dm.specs.declared.violation.Violation.{Violation};
+ghost use Rattle.cmd_dm.specs.Ending.{Ends, NoFault, result_status};
 ghost use Rattle.cmd_dm.specs.FaultLine.{Tells};
-ghost use Rattle.cmd_dm.specs.FirstRows.{IsFirstRows};
-ghost use Rattle.cmd_dm.specs.FirstSchema.{IsFirstSchema};
-ghost use Rattle.cmd_dm.specs.Folder.{schema_file, table_file};
-ghost use Rattle.cmd_dm.specs.Headline.{HoldsFile, WritesGraph};
+ghost use Rattle.cmd_dm.specs.Headline.{Checks, HoldsDatabase, MapsDirectly};
 ghost use Rattle.cmd_dm.specs.Plans.{IsOutcome, NamesFile, plan_of};
 ghost use Rattle.cmd_dm.specs.Script.{Outcome, status_of};
 ghost use Rattle.cmd_dm.specs.Words.{command_of};
-ghost use Rattle.cmd_dm.specs.declared.command.Command.TheVariants.{Direct};
-ghost use Rattle.cmd_dm.specs.declared.first_schema.TextTable.{TextTable};
+ghost use Rattle.cmd_dm.specs.declared.command.Command.TheVariants.{Direct, Check};
 ghost use Rattle.cmd_dm.specs.declared.status.File.{File};
 
+use crate::check::run_check;
 use crate::command::Command;
 use crate::direct::run_direct;
 use crate::fault_line::tell;
@@ -34,7 +35,12 @@ fn run_command<S: Shelf, K: Sink>(
         (S.state shelf.old) (S.state shelf.new) (K.state out.old) (K.state out.new) (result_status result) }
 {
     match command {
-        Command::Direct { base, folder } => run_direct(alloc, base, folder, shelf, out),
+        Command::Direct {
+            base,
+            folder,
+            nulls,
+        } => run_direct(alloc, base, folder, *nulls, shelf, out),
+        Command::Check { folder, nulls } => run_check(alloc, folder, *nulls, shelf, out),
     }
 }
 
@@ -87,7 +93,8 @@ pub fn run<S: Shelf, K: Sink, D: Sink>(
     ensures named { (command : _) (file : File) → command_of (map string_bytes words.now) ≡ Some command → result ≡ Status.ReadFault file →
         NamesFile command file (S.state shelf.new).failed }
 
-    // Over told files one thing comes of the words; and without a fault the run ends with it, or for want of memory.
+    // Over all files something comes of the words, and one thing only; and over told files, without a fault, the run ends with
+    // it, or for want of memory.
     ensures some_outcome { (files : Files) → ¬ ((outcome : Outcome) → ¬ IsOutcome files (command_of (map string_bytes words.now)) outcome) }
     ensures one_outcome { (files : Files) (outcome other : Outcome) →
         IsOutcome files (command_of (map string_bytes words.now)) outcome →
@@ -96,14 +103,21 @@ pub fn run<S: Shelf, K: Sink, D: Sink>(
         IsOutcome files (command_of (map string_bytes words.now)) outcome →
         NoFault (S.state shelf.old) (S.state shelf.new) (K.state out.old) (K.state out.new) →
         (result ≡ status_of outcome) ⊎ (result ≡ Status.Memory) }
+    ensures comes { (files : Files) → (S.state shelf.old).files ≡ Some files →
+        NoFault (S.state shelf.old) (S.state shelf.new) (K.state out.old) (K.state out.new) →
+        ((outcome : Outcome) × IsOutcome files (command_of (map string_bytes words.now)) outcome) ⊎ (result ≡ Status.Memory) }
 
-    // `direct` writes the direct graph of well-formed files.
-    ensures direct { (base folder : List ℕ) (files : Files) (schema_bytes table_bytes : List ℕ) (table : TextTable) (rows : List (List (List ℕ))) →
-        command_of (map string_bytes words.now) ≡ Some (Direct base folder) → (S.state shelf.old).files ≡ Some files →
-        IsTrue (is_base base) →
-        HoldsFile files (schema_file folder) schema_bytes → IsFirstSchema schema_bytes table →
-        HoldsFile files (table_file folder table.name) table_bytes → IsFirstRows table table_bytes rows →
-        WritesGraph base table rows (S.state shelf.old) (S.state shelf.new) (K.state out.old) (K.state out.new) result }
+    // `direct` writes the direct graph of well-formed files whose keys are kept, and else is refused for the first violation.
+    ensures direct { (base folder : List ℕ) (nulls : NullMode) (files : Files) (database : Data) (found : List Violation) →
+        command_of (map string_bytes words.now) ≡ Some (Direct base folder nulls) → (S.state shelf.old).files ≡ Some files →
+        IsTrue (is_base base) → HoldsDatabase files folder nulls database → IsListing (ViolatesAt database) found →
+        MapsDirectly base database found (S.state shelf.old) (S.state shelf.new) (K.state out.old) (K.state out.new) result }
+
+    // `check` writes the lines of the violations of well-formed files.
+    ensures check { (folder : List ℕ) (nulls : NullMode) (files : Files) (database : Data) (found : List Violation) →
+        command_of (map string_bytes words.now) ≡ Some (Check folder nulls) → (S.state shelf.old).files ≡ Some files →
+        HoldsDatabase files folder nulls database → IsListing (ViolatesAt database) found →
+        Checks database found (S.state shelf.old) (S.state shelf.new) (K.state out.old) (K.state out.new) result }
 
     // The line tells how the run ended.
     ensures line { Tells result (D.state diag.old) (D.state diag.new) }

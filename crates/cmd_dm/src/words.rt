@@ -1,12 +1,12 @@
 ghost use Rattle.std.specs.Prelude.{◌≡◌, ◌↔◌, Some, None, IfOk, IfErr, IsErrOf, chars, map, string_bytes};
-ghost use Rattle.cmd_dm.specs.Words.{command_of, direct_of};
-ghost use Rattle.cmd_dm.specs.declared.words.WordError.TheVariants.{Memory};
+ghost use Rattle.cmd_dm.specs.Words.{check_of, command_of, direct_of, nulls_of};
+ghost use Rattle.cmd_dm.specs.declared.words.WordError.TheVariants.{Memory, Usage};
 
 use crate::command::Command;
 use std::alloc::{AllocError, Global};
 use std::convert::From;
 use thiserror::Error;
-use value_dm::Text;
+use value_dm::{NullMode, Text};
 
 /// Why words gave no command.
 #[derive(Debug, Clone, Copy, PartialEq, Eq, Drop, Error)]
@@ -36,16 +36,55 @@ fn text_of(alloc: Global, word: &String) -> Result<Text, WordError>
     Ok(Text::from_str(alloc, word.as_str())?)
 }
 
+/// The mode that the words behind a folder stand for.
+fn read_nulls(words: &[String]) -> Result<NullMode, WordError>
+    ensures ok { IfOk result (λ nulls. nulls_of (map string_bytes words.now) ≡ Some nulls) }
+    ensures err { IfErr result (λ error. (error ≡ Usage) × (nulls_of (map string_bytes words.now) ≡ None)) }
+{
+    match words {
+        [] => Ok(NullMode::Plain),
+        [word] => {
+            if word.as_str() == "empty-null" {
+                Ok(NullMode::EmptyNull)
+            } else {
+                Err(WordError::Usage)
+            }
+        }
+        _ => Err(WordError::Usage),
+    }
+}
+
 /// The words behind `direct`.
 fn read_direct(alloc: Global, words: &[String]) -> Result<Command, WordError>
     ensures ok { IfOk result (λ command. direct_of (map string_bytes words.now) ≡ Some command) }
     ensures usage { IsErrOf result WordError.Usage ↔ (direct_of (map string_bytes words.now) ≡ None) }
 {
     match words {
-        [base, folder] => Ok(Command::Direct {
-            base: text_of(alloc, base)?,
-            folder: text_of(alloc, folder)?,
-        }),
+        [base, folder, last @ ..] => {
+            let nulls = read_nulls(last)?;
+            Ok(Command::Direct {
+                base: text_of(alloc, base)?,
+                folder: text_of(alloc, folder)?,
+                nulls,
+            })
+        }
+        _ => Err(WordError::Usage),
+    }
+}
+
+/// The words behind `check`.
+fn read_check(alloc: Global, words: &[String]) -> Result<Command, WordError>
+    ensures ok { IfOk result (λ command. check_of (map string_bytes words.now) ≡ Some command) }
+    ensures usage { IsErrOf result WordError.Usage ↔ (check_of (map string_bytes words.now) ≡ None) }
+{
+    match words {
+        [folder, last @ ..] => {
+            let nulls = read_nulls(last)?;
+            Ok(Command::Check {
+                folder: text_of(alloc, folder)?,
+                nulls,
+            })
+        }
         _ => Err(WordError::Usage),
     }
 }
@@ -61,6 +100,8 @@ pub fn read_words(alloc: Global, words: &[String]) -> Result<Command, WordError>
         [name, rest @ ..] => {
             if name.as_str() == "direct" {
                 read_direct(alloc, rest)
+            } else if name.as_str() == "check" {
+                read_check(alloc, rest)
             } else {
                 Err(WordError::Usage)
             }

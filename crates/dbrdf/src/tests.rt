@@ -1,17 +1,429 @@
 use cmd_dm::{Command, Status, fault_text, read_words, run};
-use outside_dm::{FileList, NamedFile, NoFaultShelf, NoFaultSink};
+use outside_dm::{
+    Calls, Cut, Cuts, FileList, MemoryShelf, MemorySink, NamedFile, NoFaultShelf, NoFaultSink,
+};
 use std::alloc::{AllocError, Global};
 use std::process::Abort;
-use value_dm::{Bytes, Text};
+use std::test::Fail;
+use value_dm::{Bytes, NullMode, Text};
 
-/// The name and the bytes of a file.
-type File<'a> = (&'a str, &'a [u8]);
+// Runs one behind another. A run is its words behind `$`; its files, each with its name behind `+` and then its lines; the
+// number of its status behind `=`; what it writes, line by line; and its line on standard error behind `!`, where there is
+// one. In the graphs `~` stands for `http://foo.example/DB/`, and prefixes for the namespaces.
 
-const SCHEMA: File<'static> = ("d/schema.sql", b"CREATE TABLE Log (msg TEXT);\n");
+fn people() -> &'static str {
+    "$ direct http://foo.example/DB/ d
++ d/schema.sql
+CREATE TABLE Addresses (ID INT PRIMARY KEY, city CHAR(10), state CHAR(2)); CREATE TABLE People (ID INT PRIMARY KEY, fname CHAR(10), addr INT, FOREIGN KEY (addr) REFERENCES Addresses(ID));
++ d/Addresses.csv
+ID,city,state
+18,Cambridge,MA
++ d/People.csv
+ID,fname,addr
+7,Bob,18
+8,Sue,\\N
+= 0
+<~Addresses/ID=18> <rdf:type> <~Addresses> .
+<~Addresses/ID=18> <~Addresses#ID> \"18\"^^<xsd:integer> .
+<~Addresses/ID=18> <~Addresses#city> \"Cambridge\" .
+<~Addresses/ID=18> <~Addresses#state> \"MA\" .
+<~People/ID=7> <rdf:type> <~People> .
+<~People/ID=7> <~People#ID> \"7\"^^<xsd:integer> .
+<~People/ID=7> <~People#fname> \"Bob\" .
+<~People/ID=7> <~People#addr> \"18\"^^<xsd:integer> .
+<~People/ID=7> <~People#ref-addr> <~Addresses/ID=18> .
+<~People/ID=8> <rdf:type> <~People> .
+<~People/ID=8> <~People#ID> \"8\"^^<xsd:integer> .
+<~People/ID=8> <~People#fname> \"Sue\" .
+"
+}
 
-const DIRECT: &str = "direct http://foo.example/DB/ d";
+fn graphs() -> &'static str {
+    "$ direct http://foo.example/DB/ d
++ d/schema.sql
+CREATE TABLE Log (msg TEXT);
++ d/Log.csv
+msg
+hi
+hi
+= 0
+_:t1r1 <rdf:type> <~Log> .
+_:t1r1 <~Log#msg> \"hi\" .
+_:t1r2 <rdf:type> <~Log> .
+_:t1r2 <~Log#msg> \"hi\" .
+$ direct http://foo.example/DB/ d
++ d/schema.sql
+CREATE TABLE \"a b/c\" (\"x;y=z\" TEXT, \"100%\" TEXT);
++ d/a%20b%2Fc.csv
+x;y=z,100%
+é,\"a\"\"b\\c\nd\"
+= 0
+_:t1r1 <rdf:type> <~a%20b%2Fc> .
+_:t1r1 <~a%20b%2Fc#x%3By%3Dz> \"é\" .
+_:t1r1 <~a%20b%2Fc#100%25> \"a\\\"b\\\\c\\nd\" .
+$ direct http://foo.example/DB/ d
++ d/schema.sql
+CREATE TABLE K (a TEXT, b TEXT, PRIMARY KEY (a, b));
++ d/K.csv
+a,b
+x;b=y,z
+,z
+= 0
+<~K/a=x%3Bb%3Dy;b=z> <rdf:type> <~K> .
+<~K/a=x%3Bb%3Dy;b=z> <~K#a> \"x;b=y\" .
+<~K/a=x%3Bb%3Dy;b=z> <~K#b> \"z\" .
+<~K/a=;b=z> <rdf:type> <~K> .
+<~K/a=;b=z> <~K#a> \"\" .
+<~K/a=;b=z> <~K#b> \"z\" .
+$ direct http://foo.example/DB/ d
++ d/schema.sql
+CREATE TABLE T (a TEXT, n INTEGER);
++ d/T.csv
+a,n
+\\\\N,6
+\\N,5
+,
+= 0
+_:t1r1 <rdf:type> <~T> .
+_:t1r1 <~T#a> \"\\\\N\" .
+_:t1r1 <~T#n> \"6\"^^<xsd:integer> .
+_:t1r2 <rdf:type> <~T> .
+_:t1r2 <~T#n> \"5\"^^<xsd:integer> .
+_:t1r3 <rdf:type> <~T> .
+_:t1r3 <~T#a> \"\" .
+$ direct http://foo.example/DB/ d empty-null
++ d/schema.sql
+CREATE TABLE T (a TEXT, n INTEGER);
++ d/T.csv
+a,n
+\\\\N,6
+\\N,5
+,
+= 0
+_:t1r1 <rdf:type> <~T> .
+_:t1r1 <~T#a> \"\\\\N\" .
+_:t1r1 <~T#n> \"6\"^^<xsd:integer> .
+_:t1r2 <rdf:type> <~T> .
+_:t1r2 <~T#n> \"5\"^^<xsd:integer> .
+_:t1r3 <rdf:type> <~T> .
+$ direct http://foo.example/DB/ d
++ d/schema.sql
+CREATE TABLE E (id INT PRIMARY KEY, boss INT REFERENCES E(id));
++ d/E.csv
+id,boss
+1,2
+2,1
+= 0
+<~E/id=1> <rdf:type> <~E> .
+<~E/id=1> <~E#id> \"1\"^^<xsd:integer> .
+<~E/id=1> <~E#boss> \"2\"^^<xsd:integer> .
+<~E/id=1> <~E#ref-boss> <~E/id=2> .
+<~E/id=2> <rdf:type> <~E> .
+<~E/id=2> <~E#id> \"2\"^^<xsd:integer> .
+<~E/id=2> <~E#boss> \"1\"^^<xsd:integer> .
+<~E/id=2> <~E#ref-boss> <~E/id=1> .
+$ direct http://foo.example/DB/ d
++ d/schema.sql
+CREATE TABLE V (i BIGINT, d NUMERIC, t DATE);
++ d/V.csv
+i,d,t
+9223372036854775807,99999999999999999999999999999999999999,2024-02-29
+= 0
+_:t1r1 <rdf:type> <~V> .
+_:t1r1 <~V#i> \"9223372036854775807\"^^<xsd:integer> .
+_:t1r1 <~V#d> \"99999999999999999999999999999999999999\"^^<xsd:decimal> .
+_:t1r1 <~V#t> \"2024-02-29\"^^<xsd:date> .
+$ direct http://foo.example/DB/ d
++ d/schema.sql
+CREATE TABLE S (i INT, d DECIMAL, b BOOLEAN, t TIME, s TIMESTAMP, x BLOB);
++ d/S.csv
+i,d,b,t,s,x
++007,007.500,T,03:04:05.500,2024-01-02 03:04:05,\\xdeadBEEF
+-0,.5,0,23:59:59,2024-01-02T03:04:05,\\x
+= 0
+_:t1r1 <rdf:type> <~S> .
+_:t1r1 <~S#i> \"7\"^^<xsd:integer> .
+_:t1r1 <~S#d> \"7.5\"^^<xsd:decimal> .
+_:t1r1 <~S#b> \"true\"^^<xsd:boolean> .
+_:t1r1 <~S#t> \"03:04:05.5\"^^<xsd:time> .
+_:t1r1 <~S#s> \"2024-01-02T03:04:05\"^^<xsd:dateTime> .
+_:t1r1 <~S#x> \"DEADBEEF\"^^<xsd:hexBinary> .
+_:t1r2 <rdf:type> <~S> .
+_:t1r2 <~S#i> \"0\"^^<xsd:integer> .
+_:t1r2 <~S#d> \"0.5\"^^<xsd:decimal> .
+_:t1r2 <~S#b> \"false\"^^<xsd:boolean> .
+_:t1r2 <~S#t> \"23:59:59\"^^<xsd:time> .
+_:t1r2 <~S#s> \"2024-01-02T03:04:05\"^^<xsd:dateTime> .
+_:t1r2 <~S#x> \"\"^^<xsd:hexBinary> .
+$ direct http://foo.example/DB/ d
++ d/schema.sql
+CREATE TABLE T (a TEXT, n INTEGER);
++ d/T.csv
+n,a
+6,x
+= 0
+_:t1r1 <rdf:type> <~T> .
+_:t1r1 <~T#a> \"x\" .
+_:t1r1 <~T#n> \"6\"^^<xsd:integer> .
+"
+}
 
-/// The words of a command line, parted by spaces.
+fn checks() -> &'static str {
+    "$ check d
++ d/schema.sql
+CREATE TABLE D (id INT PRIMARY KEY, v TEXT);
++ d/D.csv
+id,v
+1,x
+1,y
+= 0
+D 1 repeated-key
+D 2 repeated-key
+violations 2
+$ check d
++ d/schema.sql
+CREATE TABLE P (a INT, b INT, PRIMARY KEY (a, b)); CREATE TABLE Q (x INT, y INT, FOREIGN KEY (x, y) REFERENCES P);
++ d/P.csv
+a,b
+1,1
++ d/Q.csv
+x,y
+2,3
+2,\\N
+= 0
+Q 1 dangling 1
+violations 1
+$ check d
++ d/schema.sql
+CREATE TABLE U (id INT PRIMARY KEY, mail TEXT UNIQUE);
++ d/U.csv
+id,mail
+1,a
+2,a
+3,\\N
+4,\\N
+= 0
+U 1 repeated-unique 1
+U 2 repeated-unique 1
+violations 2
+$ check d
++ d/schema.sql
+CREATE TABLE V (a INT PRIMARY KEY, UNIQUE (a));
++ d/V.csv
+a
+1
+1
+= 0
+V 1 repeated-key
+V 1 repeated-unique 1
+V 2 repeated-key
+V 2 repeated-unique 1
+violations 4
+$ check d empty-null
++ d/schema.sql
+CREATE TABLE \"a b\" (k TEXT PRIMARY KEY);
++ d/a%20b.csv
+k
+\"\"
+x
+= 0
+a%20b 1 null-key
+violations 1
+$ check d
++ d/schema.sql
+CREATE TABLE T (a TEXT);
++ d/T.csv
+a
+= 0
+violations 0
+"
+}
+
+fn refusals() -> &'static str {
+    "$ direct http://foo.example/DB/ d
++ d/schema.sql
+CREATE TABLE D (id INT PRIMARY KEY, v TEXT);
++ d/D.csv
+id,v
+1,x
+1,y
+= 1
+! dbrdf: refused 42 KeyViolated table 1 place 1
+$ direct http://foo.example/DB/ d
++ d/schema.sql
+CREATE TABLE P (a INT, b INT, PRIMARY KEY (a, b)); CREATE TABLE Q (x INT, y INT, FOREIGN KEY (x, y) REFERENCES P);
++ d/P.csv
+a,b
+1,1
++ d/Q.csv
+x,y
+2,3
+2,\\N
+= 1
+! dbrdf: refused 42 KeyViolated table 2 place 1 column 1
+$ direct http://foo.example/DB/ d
++ d/schema.sql
+CREATE TABLE U (id INT PRIMARY KEY, mail TEXT UNIQUE);
++ d/U.csv
+id,mail
+1,a
+2,a
+= 1
+! dbrdf: refused 46 UniqueViolated table 1 place 1 column 1
+$ direct http://foo.example/DB/ d
++ d/schema.sql
+CREATE TABLE V (a INT PRIMARY KEY, UNIQUE (a));
++ d/V.csv
+a
+1
+1
+= 1
+! dbrdf: refused 42 KeyViolated table 1 place 1
+$ direct http://foo.example/DB/ d
++ d/schema.sql
+CREATE TABLE V (i BIGINT, d NUMERIC, t DATE);
++ d/V.csv
+i,d,t
+9223372036854775808,1,2024-02-29
+= 1
+! dbrdf: refused 23 BadValue table 1 place 2 column 1
+$ direct http://foo.example/DB/ d
++ d/schema.sql
+CREATE TABLE V (i BIGINT, d NUMERIC, t DATE);
++ d/V.csv
+i,d,t
+1,999999999999999999999999999999999999999,2024-02-29
+= 1
+! dbrdf: refused 23 BadValue table 1 place 2 column 2
+$ direct http://foo.example/DB/ d
++ d/schema.sql
+CREATE TABLE V (i BIGINT, d NUMERIC, t DATE);
++ d/V.csv
+i,d,t
+1,1,2023-02-29
+= 1
+! dbrdf: refused 23 BadValue table 1 place 2 column 3
+$ direct http://foo.example/DB/ d
++ d/schema.sql
+CREATE TABLE T (a TEXT NOT NULL);
++ d/T.csv
+a
+\\N
+= 1
+! dbrdf: refused 24 NullRefused table 1 place 2 column 1
+$ direct http://foo.example/DB/ d
++ d/schema.sql
+CREATE TABLE T (a TEXT, b INT NOT NULL);
++ d/T.csv
+= 1
+! dbrdf: refused 19 NoHeader table 1
+$ direct http://foo.example/DB/ d
++ d/schema.sql
+CREATE TABLE T (a TEXT, b INT NOT NULL);
++ d/T.csv
+a
+= 1
+! dbrdf: refused 20 BadHeader table 1 column 2
+$ direct http://foo.example/DB/ d
++ d/schema.sql
+CREATE TABLE T (a TEXT, b INT NOT NULL);
++ d/T.csv
+a,b
+x
+= 1
+! dbrdf: refused 21 FieldCount table 1 place 2
+$ direct http://foo.example/DB/ d
++ d/schema.sql
+CREATE TABLE T (a FLOAT);
+= 1
+! dbrdf: refused 18 UnknownType place 19
+$ direct http://foo.example/DB/ d
++ d/schema.sql
+CREATE TABLE T (a INT, a INT);
+= 1
+! dbrdf: refused 5 DuplicateColumn table 1
+$ check d
++ d/schema.sql
+= 1
+! dbrdf: refused 2 NoTable
+$ check d
++ d/schema.sql
+/* x
+= 1
+! dbrdf: refused 16 BadToken place 1
+$ check d
++ d/schema.sql
+CREATE TABLE \"T
+= 1
+! dbrdf: refused 16 BadToken place 14
+$ check d
++ d/schema.sql
+CREATE TABLE T (a TEXT); CREATE TABLE T (a TEXT);
+= 1
+! dbrdf: refused 4 DuplicateTable table 2
+$ check d
++ d/schema.sql
+ALTER TABLE ONLY X ADD PRIMARY KEY (a);
+= 1
+! dbrdf: refused 43 AlterUnknown place 1
+$ direct http://foo.example/DB/ d
++ d/schema.sql
+CREATE TABLE A (x INT REFERENCES B);
+= 1
+! dbrdf: refused 7 UnknownTable table 1
+$ direct http://foo.example/DB/ d
++ d/schema.sql
+CREATE TABLE A (x INT REFERENCES B); CREATE TABLE B (y TEXT PRIMARY KEY);
+= 1
+! dbrdf: refused 10 KindMismatch table 1
+$ direct http://foo.example/DB/ d
++ d/schema.sql
+CREATE TABLE A (x INT, y INT, FOREIGN KEY (x, y) REFERENCES B); CREATE TABLE B (y INT PRIMARY KEY);
+= 1
+! dbrdf: refused 9 NotAKey table 1
+$ direct http://foo.example/DB/ d
++ d/schema.sql
+CREATE TABLE A (\"ref-x\" INT, x INT UNIQUE REFERENCES A(x));
+= 1
+! dbrdf: refused 12 NameClash table 1
+$ direct http://www.w3.org/2002/07/ d
+= 1
+! dbrdf: refused 26 BadBase
+$ direct http:// d
+= 1
+! dbrdf: refused 26 BadBase
+$ direct http://foo.example/DB/ d
+= 3
+! dbrdf: absent schema
+$ direct http://foo.example/DB/ d
++ d/schema.sql
+CREATE TABLE A (x INT); CREATE TABLE B (y INT);
++ d/A.csv
+x
+= 3
+! dbrdf: absent table 2
+$ 
+= 2
+! dbrdf: usage
+$ direct
+= 2
+! dbrdf: usage
+$ direct http://foo.example/DB/ d empty
+= 2
+! dbrdf: usage
+$ check
+= 2
+! dbrdf: usage
+$ check d empty-null empty-null
+= 2
+! dbrdf: usage
+$ checks d
+= 2
+! dbrdf: usage
+"
+}
+
+// The words of a command line, parted by spaces.
 fn words_of(alloc: Global, line: &str) -> Result<Vec<String>, AllocError> {
     let mut words = Vec::new(alloc);
     for word in line.split_whitespace() {
@@ -20,118 +432,286 @@ fn words_of(alloc: Global, line: &str) -> Result<Vec<String>, AllocError> {
     Ok(words)
 }
 
-/// A shelf of these files.
-fn shelf_of(alloc: Global, files: &[File]) -> Result<NoFaultShelf, AllocError> {
-    let mut list = FileList::new(alloc);
-    for (name, bytes) in files {
-        let file = NamedFile {
-            name: Text::from_str(alloc, name)?,
-            bytes: Bytes::from_vec(Vec::from_slice(alloc, bytes)?),
-        };
-        if list.lacks(name) {
-            list.push(file)?;
-        }
+fn add_file(alloc: Global, list: &mut FileList, name: &str, bytes: &[u8]) -> Result<(), Fail> {
+    if !list.lacks(name) {
+        return Err(Fail::from("a file twice"));
     }
-    Ok(NoFaultShelf::new(list))
+    let pushed = list.push(NamedFile {
+        name: Text::from_str(alloc, name)?,
+        bytes: Bytes::from_vec(Vec::from_slice(alloc, bytes)?),
+    });
+    match pushed {
+        Ok(()) => Ok(()),
+        Err(_) => Err(Fail::from("no memory")),
+    }
 }
 
-/// Runs a command line over files, and looks at its number, its output and its line.
-fn check_run(
-    rt: &impl Abort,
-    alloc: Global,
-    line: &str,
-    files: &[File],
-    number: u8,
-    output: &[u8],
-    told: &[u8],
-) -> Result<(), AllocError> {
-    let words = words_of(alloc, line)?;
-    let mut shelf = shelf_of(alloc, files)?;
+// The files of a run: each its name, and behind the first line end what it holds.
+fn files_of(alloc: Global, files: &str) -> Result<FileList, Fail> {
+    let mut list = FileList::new(alloc);
+    for file in files.split("+ ") {
+        match file.split_once('\n') {
+            Some((name, content)) => add_file(alloc, &mut list, name, content.as_bytes())?,
+            None => {}
+        }
+    }
+    Ok(list)
+}
+
+fn replaced(alloc: Global, text: &str, mark: &str, word: &str) -> Result<String, Fail> {
+    let mut whole = String::new(alloc);
+    for (place, part) in text.split(mark).enumerate() {
+        if place > 0 {
+            whole.push_str(word)?;
+        }
+        whole.push_str(part)?;
+    }
+    Ok(whole)
+}
+
+// The text with whole IRIs.
+fn expanded(alloc: Global, text: &str) -> Result<String, Fail> {
+    let text = replaced(alloc, text, "~", "http://foo.example/DB/")?;
+    let text = replaced(
+        alloc,
+        text.as_str(),
+        "<rdf:",
+        "<http://www.w3.org/1999/02/22-rdf-syntax-ns#",
+    )?;
+    replaced(
+        alloc,
+        text.as_str(),
+        "<xsd:",
+        "<http://www.w3.org/2001/XMLSchema#",
+    )
+}
+
+// How a run ended, in the form of the tables above.
+fn ending(alloc: Global, status: &Status, out: &[u8], diag: &[u8]) -> Result<Vec<u8>, Fail> {
+    let number = format!(in alloc; "{}\n", status.number())?;
+    let mut whole = Vec::from_slice(alloc, number.as_bytes())?;
+    whole.extend_from_slice(out)?;
+    if diag.len() > 0 {
+        whole.extend_from_slice(b"! ")?;
+        whole.extend_from_slice(diag)?;
+    }
+    Ok(whole)
+}
+
+fn run_at(alloc: Global, words: &str, files: FileList) -> Result<Vec<u8>, Fail> {
+    let words = words_of(alloc, words)?;
+    let mut shelf = NoFaultShelf::new(files);
     let mut out = NoFaultSink::new(alloc);
     let mut diag = NoFaultSink::new(alloc);
     let status = run(alloc, &words, &mut shelf, &mut out, &mut diag);
-    assert!(rt; status.number() == number);
-    assert!(rt; out.bytes() == output);
-    assert!(rt; diag.bytes() == told);
-    Ok(())
+    ending(alloc, &status, out.bytes(), diag.bytes())
 }
 
-#[test]
-fn writes_the_graph_of_a_table(rt: HostRuntime) -> Result<(), AllocError> {
-    let alloc = rt.alloc();
-    let equal_rows: &[u8] =
-        b"_:t1r1 <http://www.w3.org/1999/02/22-rdf-syntax-ns#type> <http://foo.example/DB/Log> .\n\
-        _:t1r1 <http://foo.example/DB/Log#msg> \"hi\" .\n\
-        _:t1r2 <http://www.w3.org/1999/02/22-rdf-syntax-ns#type> <http://foo.example/DB/Log> .\n\
-        _:t1r2 <http://foo.example/DB/Log#msg> \"hi\" .\n";
-    let escapes: &[u8] =
-        b"_:t1r1 <http://www.w3.org/1999/02/22-rdf-syntax-ns#type> <http://foo.example/DB/Log> .\n\
-        _:t1r1 <http://foo.example/DB/Log#msg> \"a\\\"b\\\\c\\nd\\re\" .\n";
-    let cases: [(&[u8], &[u8]); 3] = [
-        (b"msg\nhi\nhi\n", equal_rows),
-        (b"msg\n\"a\"\"b\\c\nd\re\"\n", escapes),
-        (b"msg\n", b""),
-    ];
-    for (table, graph) in cases {
-        check_run(
-            &rt,
-            alloc,
-            DIRECT,
-            &[SCHEMA, ("d/Log.csv", table)],
-            0,
-            graph,
-            b"",
-        )?;
-    }
-    Ok(())
+// Whether a run ends as it is told.
+fn ends_as_told(alloc: Global, told: &str) -> Result<bool, Fail> {
+    let (given, wanted) = told.split_once("= ").ok_or("no ending")?;
+    let (words, files) = given.split_once('\n').ok_or("no words")?;
+    let found = run_at(alloc, words, files_of(alloc, files)?)?;
+    Ok(found.as_slice() == expanded(alloc, wanted)?.as_bytes())
 }
 
-#[test]
-fn refuses_other_input(rt: HostRuntime) -> Result<(), AllocError> {
-    let alloc = rt.alloc();
-    let log: File = ("d/Log.csv", b"msg\nhi\n");
-    let real: File = ("d/schema.sql", b"CREATE TABLE Log (a FLOAT);");
-    let ragged: File = ("d/Log.csv", b"msg\nhi,ho\n");
-    let null: File = ("d/Log.csv", b"msg\n\\N\n");
-    let bad_base = "direct http://www.w3.org/2002/07/ d";
-    let cases: [(&str, &[File], u8, &[u8]); 9] = [
-        ("", &[SCHEMA, log], 2, b"dbrdf: usage\n"),
-        (
-            "direct http://foo.example/DB/",
-            &[SCHEMA, log],
-            2,
-            b"dbrdf: usage\n",
-        ),
-        (
-            "direct http://foo.example/DB/ d d",
-            &[SCHEMA, log],
-            2,
-            b"dbrdf: usage\n",
-        ),
-        (bad_base, &[SCHEMA, log], 1, b"dbrdf: refused 26 BadBase\n"),
-        (DIRECT, &[log], 3, b"dbrdf: absent schema\n"),
-        (DIRECT, &[SCHEMA], 3, b"dbrdf: absent table 1\n"),
-        (DIRECT, &[real, log], 1, b"dbrdf: refused 60 NotYet\n"),
-        (DIRECT, &[SCHEMA, ragged], 1, b"dbrdf: refused 60 NotYet\n"),
-        (DIRECT, &[SCHEMA, null], 1, b"dbrdf: refused 60 NotYet\n"),
-    ];
-    for (line, files, number, told) in cases {
-        check_run(&rt, alloc, line, files, number, b"", told)?;
-    }
-    Ok(())
-}
-
-#[test]
-fn reads_words_and_tells_statuses(rt: HostRuntime) -> Result<(), AllocError> {
-    let alloc = rt.alloc();
-    let words = words_of(alloc, DIRECT)?;
-    match read_words(alloc, &words) {
-        Ok(Command::Direct { base, folder }) => {
-            assert!(rt; base.as_str() == "http://foo.example/DB/");
-            assert!(rt; folder.as_str() == "d");
+fn all_end_as_told(rt: &impl Abort, alloc: Global, runs: &str) -> Result<(), Fail> {
+    for told in runs.split("$ ") {
+        if told.len() > 0 {
+            assert!(rt; ends_as_told(alloc, told)?, "{told}");
         }
-        Err(_) => assert!(rt; false),
     }
+    Ok(())
+}
+
+#[test]
+fn writes_direct_graphs(rt: HostRuntime) -> Result<(), Fail> {
+    all_end_as_told(&rt, rt.alloc(), people())?;
+    all_end_as_told(&rt, rt.alloc(), graphs())
+}
+
+#[test]
+fn checks_keys(rt: HostRuntime) -> Result<(), Fail> {
+    all_end_as_told(&rt, rt.alloc(), checks())
+}
+
+#[test]
+fn refuses(rt: HostRuntime) -> Result<(), Fail> {
+    all_end_as_told(&rt, rt.alloc(), refusals())
+}
+
+fn line_on(alloc: Global, name: &str, bytes: &[u8], table: &[u8]) -> Result<Vec<u8>, Fail> {
+    let mut files = FileList::new(alloc);
+    add_file(alloc, &mut files, "d/schema.sql", bytes)?;
+    add_file(alloc, &mut files, name, table)?;
+    run_at(alloc, "check d", files)
+}
+
+#[test]
+fn refuses_bytes_that_are_no_text(rt: HostRuntime) -> Result<(), Fail> {
+    let alloc = rt.alloc();
+    let schema = line_on(alloc, "d/T.csv", b"\xFF", b"")?;
+    assert!(rt; schema.as_slice() == b"1\n! dbrdf: refused 15 NotUtf8 place 1\n".as_slice());
+    let schema = b"CREATE TABLE T (a TEXT, b INT NOT NULL);";
+    let table = line_on(alloc, "d/T.csv", schema, b"a,b\n\xFF,1\n")?;
+    assert!(rt;
+        table.as_slice()
+            == b"1\n! dbrdf: refused 22 TextNotUtf8 table 1 place 2 column 1\n".as_slice()
+    );
+    let cut_off = line_on(alloc, "d/T.csv", b"CREATE TABLE T (a INT", b"")?;
+    assert!(rt; cut_off.as_slice() == b"1\n! dbrdf: refused 17 Unexpected place 22\n".as_slice());
+    Ok(())
+}
+
+// Which calls of the devices fail, each counted from 1; 0 for none.
+#[derive(Clone, Copy, Drop)]
+struct Failing {
+    load: u64,
+    put: u64,
+    kept: u64,
+    line: u64,
+}
+
+fn failing_sink(alloc: Global, call: u64, kept: u64) -> Result<MemorySink, Fail> {
+    let mut cuts = Cuts::new(alloc);
+    cuts.push(Cut { call, kept })?;
+    Ok(MemorySink::new(alloc, cuts))
+}
+
+// The number of the status, what was written, and the line.
+#[derive(Drop)]
+struct Ended {
+    number: u8,
+    out: MemorySink,
+    diag: MemorySink,
+}
+
+// Runs what stands before the ending, over devices that fail.
+fn run_failing(alloc: Global, told: &str, failing: Failing) -> Result<Ended, Fail> {
+    let told = told.strip_prefix("$ ").ok_or("no run")?;
+    let (given, _) = told.split_once("= ").ok_or("no ending")?;
+    let (words, files) = given.split_once('\n').ok_or("no words")?;
+    let words = words_of(alloc, words)?;
+    let mut loads = Calls::new(alloc);
+    loads.push(failing.load)?;
+    let mut shelf = MemoryShelf::new(alloc, files_of(alloc, files)?, loads, Calls::new(alloc));
+    let mut out = failing_sink(alloc, failing.put, failing.kept)?;
+    let mut diag = failing_sink(alloc, failing.line, 0)?;
+    let number = run(alloc, &words, &mut shelf, &mut out, &mut diag).number();
+    Ok(Ended { number, out, diag })
+}
+
+#[test]
+fn tells_the_load_that_failed(rt: HostRuntime) -> Result<(), Fail> {
+    let alloc = rt.alloc();
+    let lines = "dbrdf: read fault schema|dbrdf: read fault table 1|dbrdf: read fault table 2";
+    for (place, line) in lines.split('|').enumerate() {
+        let failing = Failing {
+            load: place as u64 + 1,
+            put: 0,
+            kept: 0,
+            line: 0,
+        };
+        let ended = run_failing(alloc, people(), failing)?;
+        assert!(rt; ended.number == 4, "{line}");
+        assert!(rt; ended.out.bytes().len() == 0, "{line}");
+        assert!(rt;
+            ended.diag.bytes() == format!(in alloc; "{line}\n")?.as_bytes(),
+            "{line}"
+        );
+    }
+    Ok(())
+}
+
+// Whether the run ends well or, where the put with this number fails, with a prefix of the text and the line on it.
+fn stops_at_put(alloc: Global, put: u64, whole: &[u8]) -> Result<bool, Fail> {
+    let failing = Failing {
+        load: 0,
+        put,
+        kept: 0,
+        line: 0,
+    };
+    let ended = run_failing(alloc, people(), failing)?;
+    if ended.number == 0 {
+        return Ok(ended.out.bytes() == whole);
+    }
+    Ok(
+        (ended.number == 5)
+            & whole.starts_with(ended.out.bytes())
+            & (ended.diag.bytes() == b"dbrdf: write fault\n".as_slice()),
+    )
+}
+
+#[test]
+fn keeps_a_prefix_where_a_put_fails(rt: HostRuntime) -> Result<(), Fail> {
+    let alloc = rt.alloc();
+    let (_, wanted) = people().split_once("= 0\n").ok_or("no ending")?;
+    let whole = expanded(alloc, wanted)?;
+    for put in 1..200 {
+        assert!(rt; stops_at_put(alloc, put, whole.as_bytes())?);
+    }
+    let first = Failing {
+        load: 0,
+        put: 1,
+        kept: 1,
+        line: 0,
+    };
+    let ended = run_failing(alloc, people(), first)?;
+    assert!(rt; ended.number == 5);
+    assert!(rt; ended.out.bytes() == b"<".as_slice());
+    Ok(())
+}
+
+#[test]
+fn a_line_that_fails_changes_no_status(rt: HostRuntime) -> Result<(), Fail> {
+    let alloc = rt.alloc();
+    let failing = Failing {
+        load: 0,
+        put: 0,
+        kept: 0,
+        line: 1,
+    };
+    let real = "$ direct http://foo.example/DB/ d\n+ d/schema.sql\nCREATE TABLE T (a FLOAT);\n= 1";
+    let ended = run_failing(alloc, real, failing)?;
+    assert!(rt; ended.number == 1);
+    assert!(rt; ended.out.bytes().len() == 0);
+    assert!(rt; ended.diag.bytes().len() == 0);
+    Ok(())
+}
+
+fn command(alloc: Global, line: &str) -> Result<Command, Fail> {
+    Ok(read_words(alloc, &words_of(alloc, line)?)?)
+}
+
+fn is_direct(command: &Command) -> bool {
+    match command {
+        Command::Direct {
+            base,
+            folder,
+            nulls,
+        } => {
+            (base.as_str() == "http://foo.example/DB/")
+                & (folder.as_str() == "d")
+                & (*nulls == NullMode::Plain)
+        }
+        Command::Check { .. } => false,
+    }
+}
+
+fn is_check(command: &Command) -> bool {
+    match command {
+        Command::Direct { .. } => false,
+        Command::Check { folder, nulls } => {
+            (folder.as_str() == "d") & (*nulls == NullMode::EmptyNull)
+        }
+    }
+}
+
+#[test]
+fn reads_words_and_tells_statuses(rt: HostRuntime) -> Result<(), Fail> {
+    let alloc = rt.alloc();
+    assert!(rt; is_direct(&command(alloc, "direct http://foo.example/DB/ d")?));
+    assert!(rt; is_check(&command(alloc, "check d empty-null")?));
     let line = fault_text(alloc, &Status::WriteFault)?;
     assert!(rt; line.as_str() == "dbrdf: write fault\n");
     Ok(())

@@ -1,1 +1,2 @@
-CREATE TABLE Log (msg TEXT);
+CREATE TABLE Addresses (ID INT PRIMARY KEY, city CHAR(10), state CHAR(2));
+CREATE TABLE People (ID INT PRIMARY KEY, fname CHAR(10), addr INT, FOREIGN KEY (addr) REFERENCES Addresses(ID));

@@ -1,20 +1,14 @@
-use Rattle.std.proofs.Common.{Ok, Err, refl}
-use Rattle.cmd_dm.specs.Questions.{rows_of, not_yet}
-use Rattle.cmd_dm.specs.Steps.{on_answer, rows_step}
-use Rattle.cmd_dm.proofs.Endings.{ends_after, ends_refused, leads_ask}
+use Rattle.std.proofs.Common.{ℕ, List, subst}
+use Rattle.table_csv.specs.TableFiles.{IsFirstFault, records_of}
+use Rattle.cmd_dm.proofs.StepLaws.{rows_end, rows_read}
 use Rattle.cmd_dm.proofs.steps.read_rows.Goals as goal
 
-pub returns-in-Some : goal.returns-in-Some
-unfolding rows_step
-returns-in-Some c = λ state next.
-    leads_ask (rows_of c.args.table.now c.args.bytes.now) (Ok c.in-Some.rows) (λ answer. on_answer answer next) state
-    (rw (c.in-Some.is, c.as_slice.ensures) at c.in_ok-rows.ensures)
+pub returns-in-Ok-clause-step : goal.returns-in-Ok-clause-step
+returns-in-Ok-clause-step c = λ state next.
+    rows_read c.args.table.now.columns c.args.nulls c.args.number c.args.bytes.now c.requires c.in-Ok.rows (rw c.as_slice.ensures at c.in-Ok.ensures.ok) state next
 
-pub returns-in-None : goal.returns-in-None
-unfolding rows_step
-returns-in-None c = λ state target next out.
-    rw c.of_code.ensures
-    (ends_after
-    (leads_ask (rows_of c.args.table.now c.args.bytes.now) (Err not_yet) (λ answer. on_answer answer next) state
-    (refl, rw (c.in-None.is, c.as_slice.ensures) at c.in_ok-rows.ensures))
-    (ends_refused target not_yet state out))
+pub returns-in-Err-clause-step : goal.returns-in-Err-clause-step
+returns-in-Err-clause-step c = λ state target next out.
+    rw c.table_status.ensures
+    (rows_end c.args.table.now.columns c.args.nulls c.args.number c.args.bytes.now c.requires c.in-Err.error
+    (subst (λ (bytes : List ℕ). IsFirstFault c.args.table.now.columns c.args.nulls (records_of bytes) c.in-Err.error) c.as_slice.ensures c.in-Err.ensures.refused) state target next out)

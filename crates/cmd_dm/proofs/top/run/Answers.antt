@@ -1,4 +1,5 @@
-use Rattle.cmd_dm.proofs.Promises.{words_some, words_unique, words_exact, names_failed, writes_graph}
+use Rattle.cmd_dm.proofs.Promises.{words_unique, words_exact, words_come, names_failed, maps_directly, checks}
+use Rattle.cmd_dm.proofs.SomeOutcome.{words_some}
 use Rattle.cmd_dm.proofs.top.run.Goals as goal
 
 pub returns-clause-named : goal.returns-clause-named
@@ -13,6 +14,13 @@ returns-clause-one_outcome g c = λ files outcome other h k. words_unique files 
 pub returns-clause-outcome : goal.returns-clause-outcome
 returns-clause-outcome g c = λ files outcome told comes calm. words_exact _ _ files outcome c.decide-status.ensures.usage.1 c.decide-status.ensures.ends told comes calm
 
+pub returns-clause-comes : goal.returns-clause-comes
+returns-clause-comes g c = λ files told calm. words_come _ _ files c.decide-status.ensures.ends told calm
+
 pub returns-clause-direct : goal.returns-clause-direct
-returns-clause-direct g c = λ base folder files schema_bytes table_bytes table rows is told good schema_held schema table_held table_rows.
-    writes_graph base folder files schema_bytes table_bytes table rows _ (c.decide-status.ensures.ends _ is) told good schema_held schema table_held table_rows
+returns-clause-direct g c = λ base folder nulls files database found is told good held listed.
+    maps_directly base folder nulls files database found _ (c.decide-status.ensures.ends _ is) told good held listed
+
+pub returns-clause-check : goal.returns-clause-check
+returns-clause-check g c = λ folder nulls files database found is told held listed.
+    checks folder nulls files database found _ (c.decide-status.ensures.ends _ is) told held listed

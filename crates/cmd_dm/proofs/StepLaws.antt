@@ -1,0 +1,134 @@
+-- What the steps do that read schemas, tables and keys.
+use Rattle.std.proofs.Common.{◌≡◌, ◌∙◌, refl, sym, ap, subst, arith, ℕ, suc, zero, ◌+◌, List, [], ◌∷◌, ◌++◌, drop, take, length, Some, Ok, Err, append-nil}
+use Rattle.std.specs.Prelude.{slice_get}
+use Rattle.std.specs.List.{AllZip}
+use Rattle.std.proofs.lemmas.List.{append_assoc, drop_all, take_more}
+use Rattle.std.proofs.lemmas.Option.{get_or_from_slice_get, slice_get_within}
+use Rattle.members_dm.specs.Membership.{NoRepeats}
+use Rattle.value_dm.specs.declared.mode.NullMode.{NullMode}
+use Rattle.schema_dm.specs.Naming.{column_names}
+use Rattle.schema_dm.specs.declared.draft.Column.{Column}
+use Rattle.schema_dm.specs.declared.table.Table.{Table}
+use Rattle.ddl_dm.specs.Schema.{IsDdl, IsDdlFault, IsSchemaRead}
+use Rattle.ddl_dm.specs.declared.ddl.DdlError.{DdlError}
+use Rattle.ddl_dm.specs.declared.ddl.DdlError.TheVariants as ddl
+use Rattle.outside_dm.specs.Shelves.{ShelfState}
+use Rattle.outside_dm.specs.Sinks.{SinkState}
+use Rattle.table_csv.specs.Cells.{Row}
+use Rattle.table_csv.specs.TableFiles.{IsFirstFault, IsTableFile, records_of}
+use Rattle.table_csv.specs.declared.fault.TableError.{TableError}
+use Rattle.table_csv.specs.declared.fault.TableError.TheVariants as table
+use Rattle.cmd_dm.specs.Ending.{Target, Ends, Leads}
+use Rattle.cmd_dm.specs.Folder.{table_file}
+use Rattle.cmd_dm.specs.Questions.{schema_of, rows_of}
+use Rattle.cmd_dm.specs.Reasons.{cause_code, ddl_status, reason, table_status}
+use Rattle.cmd_dm.specs.Script.{Script, load}
+use Rattle.cmd_dm.specs.Steps.{on_answer, rows_step, schema_step, tables_step}
+use Rattle.cmd_dm.proofs.Endings.{ends_after, ends_memory, ends_refused, leads_ask, leads_refl}
+use Rattle.cmd_dm.specs.declared.status.File.TheVariants as file
+use Rattle.cmd_dm.specs.declared.status.Reason.{Reason}
+use Rattle.cmd_dm.specs.declared.status.Status.TheVariants.{Refused}
+
+-- ---- schemas
+
+pub schema_reads : (bytes : List ℕ) (tables : List Table) → IsDdl bytes tables → (state : ShelfState) (next : List Table → Script) → Leads (schema_step bytes next) state (next tables) state
+unfolding schema_step
+schema_reads bytes tables is state next = leads_ask (schema_of bytes) (Ok tables) (λ answer. on_answer answer next) state is
+
+schema_refuses : (bytes : List ℕ) (error : DdlError) (why : Reason) → IsDdlFault bytes error → ddl_status error ≡ Refused why → (state : ShelfState) (target : Target) (next : List Table → Script) (out : SinkState) →
+    Ends target (schema_step bytes next) state state out out (Refused why)
+unfolding schema_step
+schema_refuses bytes error why fault told state target next out =
+    ends_after (leads_ask (schema_of bytes) (Err why) (λ answer. on_answer answer next) state (error, fault, told)) (ends_refused target why state out)
+
+pub schema_ends : (bytes : List ℕ) (error : DdlError) → IsSchemaRead bytes (Err error) → (state : ShelfState) (target : Target) (next : List Table → Script) (out : SinkState) →
+    Ends target (schema_step bytes next) state state out out (ddl_status error)
+schema_ends bytes (ddl.NotUtf8 place) h state target next out = schema_refuses bytes (ddl.NotUtf8 place) (reason 15 0 place 0) h.0 refl state target next out
+schema_ends bytes (ddl.BadToken place) h state target next out = schema_refuses bytes (ddl.BadToken place) (reason 16 0 place 0) h.0 refl state target next out
+schema_ends bytes (ddl.Unexpected place) h state target next out = schema_refuses bytes (ddl.Unexpected place) (reason 17 0 place 0) h.0 refl state target next out
+schema_ends bytes (ddl.UnknownType place) h state target next out = schema_refuses bytes (ddl.UnknownType place) (reason 18 0 place 0) h.0 refl state target next out
+schema_ends bytes (ddl.AlterUnknown number) h state target next out = schema_refuses bytes (ddl.AlterUnknown number) (reason 43 0 number 0) h.0 refl state target next out
+schema_ends bytes (ddl.Schema error) h state target next out =
+    schema_refuses bytes (ddl.Schema error) (reason (cause_code error.cause) error.table 0 0) h.0 refl state target next out
+schema_ends bytes ddl.Memory h state target next out = ends_memory target (schema_step bytes next) state out
+
+-- ---- rows
+
+module _ (columns : List Column) (mode : NullMode) (number : ℕ) (bytes : List ℕ) (distinct : NoRepeats (column_names columns)) where
+  pub rows_read : (rows : List Row) → IsTableFile columns mode bytes rows → (state : ShelfState) (next : List Row → Script) → Leads (rows_step columns mode number bytes next) state (next rows) state
+  unfolding rows_step
+  rows_read rows is state next = leads_ask (rows_of columns mode number bytes) (Ok rows) (λ answer. on_answer answer next) state (distinct, is)
+
+  rows_refuse : (error : TableError) (why : Reason) → IsFirstFault columns mode (records_of bytes) error → table_status number error ≡ Refused why →
+      (state : ShelfState) (target : Target) (next : List Row → Script) (out : SinkState) → Ends target (rows_step columns mode number bytes next) state state out out (Refused why)
+  unfolding rows_step
+  rows_refuse error why fault told state target next out =
+      ends_after (leads_ask (rows_of columns mode number bytes) (Err why) (λ answer. on_answer answer next) state (distinct, (error, fault, told))) (ends_refused target why state out)
+
+  pub rows_end : (error : TableError) → IsFirstFault columns mode (records_of bytes) error → (state : ShelfState) (target : Target) (next : List Row → Script) (out : SinkState) →
+      Ends target (rows_step columns mode number bytes next) state state out out (table_status number error)
+  rows_end table.NoHeader h state target next out = rows_refuse table.NoHeader (reason 19 number 0 0) h refl state target next out
+  rows_end (table.BadHeader column) h state target next out = rows_refuse (table.BadHeader column) (reason 20 number 0 column) h refl state target next out
+  rows_end (table.FieldCount place) h state target next out = rows_refuse (table.FieldCount place) (reason 21 number place 0) h refl state target next out
+  rows_end (table.TextNotUtf8 place column) h state target next out = rows_refuse (table.TextNotUtf8 place column) (reason 22 number place column) h refl state target next out
+  rows_end (table.BadValue place column) h state target next out = rows_refuse (table.BadValue place column) (reason 23 number place column) h refl state target next out
+  rows_end (table.NullRefused place column) h state target next out = rows_refuse (table.NullRefused place column) (reason 24 number place column) h refl state target next out
+  rows_end table.TooManyRows h state target next out = rows_refuse table.TooManyRows (reason 25 number 0 0) h refl state target next out
+  rows_end table.Memory h state target next out = ends_memory target (rows_step columns mode number bytes next) state out
+
+-- ---- tables
+
+-- what is left of a list from an item on
+drop_from : {X : Type 0} (xs : List X) (i : ℕ) (x : X) → slice_get xs i ≡ Some x → drop i xs ≡ x ∷ drop (suc i) xs
+drop_from [] i x at = cc at
+drop_from (y ∷ ys) zero x at = cc at
+drop_from (y ∷ ys) (suc i) x at = drop_from ys i x at
+
+module _ (folder : List ℕ) (mode : NullMode) (tables : List Table) (old : ShelfState) where
+  -- the rows of the first tables have been read: this is what is left
+  abbrev pub ReadSoFar : ℕ → List (List Row) → ShelfState → Type 0
+  ReadSoFar place list state =
+      (next : List (List Row) → Script) → Leads (tables_step folder mode 0 tables next) old (tables_step folder mode place (drop place tables) (λ others. next (list ++ others))) state
+
+  pub none_read : ReadSoFar 0 [] old
+  none_read = λ next. leads_refl (tables_step folder mode 0 tables next) old
+
+  -- what comes behind the file of the table at the place
+  abbrev pub behind : ℕ → List (List Row) → (List (List Row) → Script) → List Row → Script
+  behind place list next = λ rows. tables_step folder mode (place + 1) (drop (place + 1) tables) (λ others. next (list ++ rows ∷ others))
+
+  -- the next step is to load the file of the table at the place
+  pub leads_to_table : (place : ℕ) (list : List (List Row)) (state : ShelfState) (at : Table) → slice_get tables place ≡ Some at → ReadSoFar place list state → (next : List (List Row) → Script) →
+      Leads (tables_step folder mode 0 tables next) old (load (file.Table (place + 1)) (table_file folder at.name) (λ bytes. rows_step at.columns mode (place + 1) bytes (behind place list next))) state
+  unfolding tables_step
+  leads_to_table place list state at is so_far next =
+      subst (λ (rest : List Table). Leads (tables_step folder mode 0 tables next) old (tables_step folder mode place rest (λ others. next (list ++ others))) state) (drop_from tables place at is ∙ ap (λ n. at ∷ drop n tables) one_on) (so_far next)
+    where
+      one_on : suc place ≡ place + 1
+      one_on = omega arith
+
+  -- and with its rows one more table has been read
+  pub one_more_read : (place : ℕ) (list : List (List Row)) (rows : List Row) (state : ShelfState) →
+      ((next : List (List Row) → Script) → Leads (tables_step folder mode 0 tables next) old (behind place list next rows) state) → ReadSoFar (place + 1) (list ++ rows ∷ []) state
+  one_more_read place list rows state leads next =
+      subst (λ (go : List (List Row) → Script). Leads (tables_step folder mode 0 tables next) old (tables_step folder mode (place + 1) (drop (place + 1) tables) go) state)
+      (λ i. λ others. next (sym (append_assoc list (rows ∷ []) others) i)) (leads next)
+
+  pub all_read : (place : ℕ) (list : List (List Row)) (state : ShelfState) → place ≡ length tables → ReadSoFar place list state → (next : List (List Row) → Script) → Leads (tables_step folder mode 0 tables next) old (next list) state
+  unfolding tables_step
+  all_read place list state whole so_far next =
+      subst (λ (l : List (List Row)). Leads (tables_step folder mode 0 tables next) old (next l) state) (append-nil list)
+      (subst (λ (rest : List Table). Leads (tables_step folder mode 0 tables next) old (tables_step folder mode place rest (λ others. next (list ++ others))) state)
+      (drop_all place tables (omega (arith, whole))) (so_far next))
+
+zip_behind : {A B : Type 0} (R : A → B → Type 0) (xs : List A) (ys : List B) (x : A) (y : B) → AllZip R xs ys → R x y → AllZip R (xs ++ x ∷ []) (ys ++ y ∷ [])
+zip_behind R [] [] x y h r = (r, tt)
+zip_behind R [] (b ∷ ys) x y h r = absurd h
+zip_behind R (a ∷ xs) [] x y h r = absurd h
+zip_behind R (a ∷ xs) (b ∷ ys) x y h r = (h.0, zip_behind R xs ys x y h.1 r)
+
+-- one more item and its item of the other list
+pub zip_more : {A B : Type 0} (R : A → B → Type 0) (xs : List A) (ys : List B) (i : ℕ) (x : A) (y : B) → slice_get xs i ≡ Some x → AllZip R (take i xs) ys → R x y → AllZip R (take (i + 1) xs) (ys ++ y ∷ [])
+zip_more {A} R xs ys i x y at h r =
+    subst (λ (front : List A). AllZip R front (ys ++ y ∷ []))
+    (sym (take_more xs i x (slice_get_within xs i x at) ∙ ap (λ z. take i xs ++ z ∷ []) (get_or_from_slice_get xs i x x at))) (zip_behind R (take i xs) ys x y h r)

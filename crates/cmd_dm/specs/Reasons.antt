@@ -1,0 +1,70 @@
+-- The refusals of input: the code of each cause, and what it names. Bytes, statements, tables, records, columns, rows and keys
+-- are counted from 1.
+use Rattle.std.specs.Prelude.{ℕ}
+use Rattle.schema_dm.specs.declared.refusal.SchemaCause.{SchemaCause}
+use Rattle.schema_dm.specs.declared.refusal.SchemaCause.TheVariants.{NoTable, TooManyTables, BadName, NoColumn, TooManyColumns, DuplicateTable, DuplicateColumn, UnknownColumn, UnknownTable, TwoPrimaryKeys, NotAKey, KindMismatch, SameColumnsTwice, NameClash}
+use Rattle.ddl_dm.specs.declared.ddl.DdlError.{DdlError}
+use Rattle.ddl_dm.specs.declared.ddl.DdlError.TheVariants as ddl
+use Rattle.table_csv.specs.declared.fault.TableError.{TableError}
+use Rattle.table_csv.specs.declared.fault.TableError.TheVariants as table
+use Rattle.keys_dm.specs.declared.violation.Violation.{Violation}
+use Rattle.keys_dm.specs.declared.violation.ViolationKind.{ViolationKind}
+use Rattle.keys_dm.specs.declared.violation.ViolationKind.TheVariants.{NullKey, RepeatedKey, RepeatedUnique, Dangling}
+use Rattle.cmd_dm.specs.declared.status.Reason.{Reason}
+use Rattle.cmd_dm.specs.declared.status.Status.{Status}
+use Rattle.cmd_dm.specs.declared.status.Status.TheVariants.{Refused, Memory}
+
+-- the code, and then the table, the place and the column
+abbrev pub reason : ℕ → ℕ → ℕ → ℕ → Reason
+reason code table place column = record { code = code; table = table; place = place; column = column }
+
+abbrev pub bad_base : Reason
+bad_base = reason 26 0 0 0
+
+abbrev pub cause_code : SchemaCause → ℕ
+cause_code NoTable = 2
+cause_code NoColumn = 3
+cause_code DuplicateTable = 4
+cause_code DuplicateColumn = 5
+cause_code UnknownColumn = 6
+cause_code UnknownTable = 7
+cause_code TwoPrimaryKeys = 8
+cause_code NotAKey = 9
+cause_code KindMismatch = 10
+cause_code SameColumnsTwice = 11
+cause_code NameClash = 12
+cause_code TooManyTables = 13
+cause_code TooManyColumns = 14
+cause_code BadName = 41
+
+-- the status of statements that are no schema
+abbrev pub ddl_status : DdlError → Status
+ddl_status (ddl.NotUtf8 place) = Refused (reason 15 0 place 0)
+ddl_status (ddl.BadToken place) = Refused (reason 16 0 place 0)
+ddl_status (ddl.Unexpected place) = Refused (reason 17 0 place 0)
+ddl_status (ddl.UnknownType place) = Refused (reason 18 0 place 0)
+ddl_status (ddl.AlterUnknown statement) = Refused (reason 43 0 statement 0)
+ddl_status (ddl.Schema error) = Refused (reason (cause_code error.cause) error.table 0 0)
+ddl_status ddl.Memory = Memory
+
+-- the status of a file that isn't one of rows of the table of this number
+abbrev pub table_status : ℕ → TableError → Status
+table_status number table.NoHeader = Refused (reason 19 number 0 0)
+table_status number (table.BadHeader column) = Refused (reason 20 number 0 column)
+table_status number (table.FieldCount place) = Refused (reason 21 number place 0)
+table_status number (table.TextNotUtf8 place column) = Refused (reason 22 number place column)
+table_status number (table.BadValue place column) = Refused (reason 23 number place column)
+table_status number (table.NullRefused place column) = Refused (reason 24 number place column)
+table_status number table.TooManyRows = Refused (reason 25 number 0 0)
+table_status number table.Memory = Memory
+
+abbrev pub kind_reason : ℕ → ℕ → ViolationKind → Reason
+kind_reason table row NullKey = reason 42 table row 0
+kind_reason table row RepeatedKey = reason 42 table row 0
+kind_reason table row (RepeatedUnique key) = reason 46 table row key
+kind_reason table row (Dangling key) = reason 42 table row key
+
+-- the reason of a violated key: the row is the place, and the column is the number of the UNIQUE or foreign key, or 0 for the
+-- primary key
+abbrev pub key_reason : Violation → Reason
+key_reason violation = kind_reason violation.table violation.row violation.kind

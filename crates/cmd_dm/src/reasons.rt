@@ -1,0 +1,87 @@
+ghost use Rattle.std.specs.Prelude.{◌≡◌};
+ghost use Rattle.cmd_dm.specs.Reasons.{cause_code, ddl_status, key_reason, table_status};
+
+use crate::status::{Reason, Status};
+use ddl_dm::DdlError;
+use keys_dm::{Violation, ViolationKind};
+use schema_dm::SchemaCause;
+use table_csv::TableError;
+
+/// The code of a cause for which tables stand for no schema.
+fn cause_code(cause: SchemaCause) -> u8
+    ensures { result ≡ cause_code cause }
+{
+    match cause {
+        SchemaCause::NoTable => 2,
+        SchemaCause::NoColumn => 3,
+        SchemaCause::DuplicateTable => 4,
+        SchemaCause::DuplicateColumn => 5,
+        SchemaCause::UnknownColumn => 6,
+        SchemaCause::UnknownTable => 7,
+        SchemaCause::TwoPrimaryKeys => 8,
+        SchemaCause::NotAKey => 9,
+        SchemaCause::KindMismatch => 10,
+        SchemaCause::SameColumnsTwice => 11,
+        SchemaCause::NameClash => 12,
+        SchemaCause::TooManyTables => 13,
+        SchemaCause::TooManyColumns => 14,
+        SchemaCause::BadName => 41,
+    }
+}
+
+/// A refusal of this code.
+fn refused(code: u8, table: u64, place: u64, column: u64) -> Status
+    ensures { result ≡ Status.Refused (record { code = code; table = table; place = place; column = column }) }
+{
+    Status::Refused(Reason {
+        code,
+        table,
+        place,
+        column,
+    })
+}
+
+/// The status of statements that are no schema.
+pub(crate) fn ddl_status(error: DdlError) -> Status
+    ensures { result ≡ ddl_status error }
+{
+    match error {
+        DdlError::NotUtf8(place) => refused(15, 0, place, 0),
+        DdlError::BadToken(place) => refused(16, 0, place, 0),
+        DdlError::Unexpected(place) => refused(17, 0, place, 0),
+        DdlError::UnknownType(place) => refused(18, 0, place, 0),
+        DdlError::AlterUnknown(statement) => refused(43, 0, statement, 0),
+        DdlError::Schema(error) => refused(cause_code(error.cause), error.table, 0, 0),
+        DdlError::Memory => Status::Memory,
+    }
+}
+
+/// The status of a file that isn't one of rows of the table of this number, counted from 1.
+pub(crate) fn table_status(number: u64, error: TableError) -> Status
+    ensures { result ≡ table_status number error }
+{
+    match error {
+        TableError::NoHeader => refused(19, number, 0, 0),
+        TableError::BadHeader(column) => refused(20, number, 0, column),
+        TableError::FieldCount(place) => refused(21, number, place, 0),
+        TableError::TextNotUtf8(place, column) => refused(22, number, place, column),
+        TableError::BadValue(place, column) => refused(23, number, place, column),
+        TableError::NullRefused(place, column) => refused(24, number, place, column),
+        TableError::TooManyRows => refused(25, number, 0, 0),
+        TableError::Memory => Status::Memory,
+    }
+}
+
+/// The status of a violated key.
+pub(crate) fn key_status(violation: &Violation) -> Status
+    ensures { result ≡ Status.Refused (key_reason violation.now) }
+{
+    let table = violation.table;
+    let row = violation.row;
+    match violation.kind {
+        ViolationKind::NullKey => refused(42, table, row, 0),
+        ViolationKind::RepeatedKey => refused(42, table, row, 0),
+        ViolationKind::RepeatedUnique(key) => refused(46, table, row, key),
+        ViolationKind::Dangling(key) => refused(42, table, row, key),
+    }
+}
