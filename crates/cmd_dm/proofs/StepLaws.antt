@@ -18,6 +18,7 @@ use Rattle.table_csv.specs.Cells.{Row}
 use Rattle.table_csv.specs.TableFiles.{IsFirstFault, IsTableFile, records_of}
 use Rattle.table_csv.specs.declared.fault.TableError.{TableError}
 use Rattle.table_csv.specs.declared.fault.TableError.TheVariants as table
+use Rattle.table_csv.proofs.Zips.{zipped_behind}
 use Rattle.cmd_dm.specs.Ending.{Target, Ends, Leads}
 use Rattle.cmd_dm.specs.Folder.{table_file}
 use Rattle.cmd_dm.specs.Questions.{schema_of, rows_of}
@@ -121,14 +122,8 @@ module _ (folder : List ℕ) (mode : NullMode) (tables : List Table) (old : Shel
       (subst (λ (rest : List Table). Leads (tables_step folder mode 0 tables next) old (tables_step folder mode place rest (λ others. next (list ++ others))) state)
       (drop_all place tables (omega (arith, whole))) (so_far next))
 
-zip_behind : {A B : Type 0} (R : A → B → Type 0) (xs : List A) (ys : List B) (x : A) (y : B) → AllZip R xs ys → R x y → AllZip R (xs ++ x ∷ []) (ys ++ y ∷ [])
-zip_behind R [] [] x y h r = (r, tt)
-zip_behind R [] (b ∷ ys) x y h r = absurd h
-zip_behind R (a ∷ xs) [] x y h r = absurd h
-zip_behind R (a ∷ xs) (b ∷ ys) x y h r = (h.0, zip_behind R xs ys x y h.1 r)
-
 -- one more item and its item of the other list
 pub zip_more : {A B : Type 0} (R : A → B → Type 0) (xs : List A) (ys : List B) (i : ℕ) (x : A) (y : B) → slice_get xs i ≡ Some x → AllZip R (take i xs) ys → R x y → AllZip R (take (i + 1) xs) (ys ++ y ∷ [])
 zip_more {A} R xs ys i x y at h r =
     subst (λ (front : List A). AllZip R front (ys ++ y ∷ []))
-    (sym (take_more xs i x (slice_get_within xs i x at) ∙ ap (λ z. take i xs ++ z ∷ []) (get_or_from_slice_get xs i x x at))) (zip_behind R (take i xs) ys x y h r)
+    (sym (take_more xs i x (slice_get_within xs i x at) ∙ ap (λ z. take i xs ++ z ∷ []) (get_or_from_slice_get xs i x x at))) (zipped_behind R (take i xs) ys x y h r)

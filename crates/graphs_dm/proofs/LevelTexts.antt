@@ -1,9 +1,9 @@
 -- How the texts of levels join.
-use Rattle.std.proofs.Common.{◌≡◌, ◌∙◌, append_assoc, sym, ap, subst, ℕ, ◌+◌, ◌<◌, List, [], ◌∷◌, ◌++◌, map, refl, Result, Ok, Err}
+use Rattle.std.proofs.Common.{◌≡◌, ◌∙◌, append_assoc, sym, ap, ℕ, ◌+◌, ◌<◌, List, [], ◌∷◌, ◌++◌, refl, Result, Ok, Err}
 use Rattle.std.proofs.lemmas.List.{append-nil}
 use Rattle.std.proofs.lemmas.Grind.{flat_map-append}
 use Rattle.std.specs.List.{flat_map}
-use Rattle.members_dm.specs.Places.{Place, items_of, levels, one_item, under}
+use Rattle.members_dm.specs.Places.{items_of, levels, one_item, under}
 use Rattle.members_dm.proofs.PlacesLemmas.{items_of-front, items_of-level, items_of-no_level, items_of-none, items_of-one, items_of-under}
 use Rattle.names_dm.specs.Facts.{Fact, Node}
 use Rattle.outside_dm.specs.Sinks.{SinkState}

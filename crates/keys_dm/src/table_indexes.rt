@@ -27,7 +27,6 @@ pub fn table_of(database: &Database, place: u32) -> &Table
     requires { place < length database.now.tables }
     ensures value { result.now ≡ table_at database.now.tables place }
     ensures lawful { IsTable database.now.tables result.now }
-    ensures few { length database.now.tables ≤ 4096 }
 {
     &database.schema().tables()[place as usize]
 }

@@ -1,5 +1,5 @@
 -- How the pieces of a line join.
-use Rattle.std.proofs.Common.{◌≡◌, ◌∙◌, append_assoc, codes, sym, subst, [], ℕ, ◌+◌, ◌<◌, List, ◌++◌, length, take, drop, get_or, Result, Ok, Err}
+use Rattle.std.proofs.Common.{◌≡◌, ◌∙◌, append_assoc, codes, sym, subst, [], ℕ, ◌+◌, ◌<◌, List, ◌++◌, length, take, drop, get_or, Result, Err}
 use Rattle.std.specs.List.{flat_map}
 use Rattle.outside_dm.specs.Sinks.{SinkState}
 use Rattle.outside_dm.specs.Putting.{Written, Passes}

@@ -1,5 +1,5 @@
 -- Texts inside quotes, byte by byte and run by run.
-use Rattle.std.proofs.Common.{◌≡◌, ◌∙◌, ◌++◌, ◌∷◌, ◌<◌, ◌≤◌, ◌+◌, ◌||◌, [], ℕ, zero, suc, List, Bool, true, false, refl, sym, ap, arith, inl, inr, eqb, ltb, cond, append_assoc, get_or, take, drop, length, Option, Some, None}
+use Rattle.std.proofs.Common.{◌≡◌, ◌∙◌, ◌++◌, ◌∷◌, ◌<◌, ◌≤◌, ◌+◌, ◌||◌, [], ℕ, suc, List, Bool, true, false, refl, sym, ap, arith, inl, inr, eqb, ltb, append_assoc, get_or, take, drop, length, Some, None}
 use Rattle.std.specs.Prelude.{encode_utf8_all}
 use Rattle.std.proofs.lemmas.Bool.{cases_Bool, cases_lt, lt-ltb, le-ltb, ne_eqb, ltb-false}
 use Rattle.std.proofs.lemmas.Grind.{flat_map-append}

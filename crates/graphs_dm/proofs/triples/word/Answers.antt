@@ -1,4 +1,4 @@
-use Rattle.std.proofs.Common.{◌≡◌, ◌∙◌, ap}
+use Rattle.std.proofs.Common.{◌∙◌, ap}
 use Rattle.names_dm.specs.Terminals.{is_iri}
 use Rattle.graphs_dm.proofs.Words.{marks_are_iri, marks_chars}
 use Rattle.graphs_dm.proofs.triples.word.Goals as goal

@@ -1,4 +1,4 @@
-use Rattle.std.proofs.Common.{◌≡◌, ◌∙◌, sym, ap, true, false, List, ℕ}
+use Rattle.std.proofs.Common.{◌≡◌, ◌∙◌, sym, ap, true, false, ℕ}
 use Rattle.std.specs.List.{flat_map}
 use Rattle.outside_dm.proofs.Putting.{Writes-same}
 use Rattle.keys_dm.specs.KeyCells.{cells_at}

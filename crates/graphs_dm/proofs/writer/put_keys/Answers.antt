@@ -1,4 +1,4 @@
-use Rattle.std.proofs.Common.{◌≡◌, ◌<◌, ap, arith, length, List, ℕ, Option, Some, Result}
+use Rattle.std.proofs.Common.{◌≡◌, ap, arith, length, List, ℕ, Option, Some, Result}
 use Rattle.std.proofs.lemmas.Result.{err_from_is_err_and}
 use Rattle.std.specs.Prelude.{slice_get}
 use Rattle.outside_dm.specs.Putting.{Writes}

@@ -1,4 +1,3 @@
-use Rattle.std.proofs.Common.{◌≡◌, ap, refl}
 use Rattle.std.proofs.lemmas.List.{get_or_default}
 use Rattle.std.proofs.lemmas.Result.{err_from_is_err_and}
 use Rattle.members_dm.proofs.ElementsLemmas.{item_within}

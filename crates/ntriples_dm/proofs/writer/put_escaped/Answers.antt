@@ -1,8 +1,7 @@
-use Rattle.std.proofs.Common.{◌≡◌, ◌∙◌, ◌++◌, ◌+◌, ◌<◌, ℕ, List, Option, Some, None, [], refl, sym, ap, arith, append_assoc, drop, get_or, length, take}
-use Rattle.std.proofs.lemmas.List.{append-nil, length-drop}
+use Rattle.std.proofs.Common.{◌∙◌, ◌++◌, ◌+◌, ℕ, [], refl, sym, ap, arith, append_assoc, drop, get_or, take}
+use Rattle.std.proofs.lemmas.List.{length-drop}
 use Rattle.std.proofs.lemmas.Result.{err_from_is_err_and}
-use Rattle.std.specs.List.{flat_map, position}
-use Rattle.lanes_dm.specs.ByteSet.{has_byte}
+use Rattle.std.specs.List.{flat_map}
 use Rattle.outside_dm.proofs.Putting.{Passes-cut, Passes-put, Passes-then, Written-nothing, Written-then}
 use Rattle.ntriples_dm.specs.Written.{escaped}
 use Rattle.ntriples_dm.proofs.Pieces.{passes_same}

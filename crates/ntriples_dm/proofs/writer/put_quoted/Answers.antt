@@ -1,4 +1,4 @@
-use Rattle.std.proofs.Common.{◌≡◌, ◌∙◌, sym, ap}
+use Rattle.std.proofs.Common.{◌∙◌, sym, ap}
 use Rattle.std.specs.List.{flat_map}
 use Rattle.ntriples_dm.specs.Written.{escaped}
 use Rattle.ntriples_dm.proofs.Pieces.{passes_same}
