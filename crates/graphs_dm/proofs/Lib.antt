@@ -1,5 +1,5 @@
 mod KeyRows
-mod NodeLaws
+pub mod NodeLaws
 mod KeyNodes
 mod LevelTexts
 pub mod DirectLevels

@@ -4,7 +4,7 @@ mod Escapes
 pub mod Keys
 mod Lists
 mod Marks
-mod NamesApart
+pub mod NamesApart
 mod NamingInstance
 mod Parts
 mod Read

@@ -7,7 +7,7 @@ use std::marker::Model;
 use value_dm::{Text, TryCopy};
 
 /// An IRI: a text with no character that IRIREF forbids (RDF 1.1 N-Triples, section 7). Contracts see its characters.
-#[derive(PartialEq, Eq, Drop)]
+#[derive(PartialEq, Eq, Hash, Drop)]
 pub struct Iri {
     text: Text,
 }
@@ -66,8 +66,8 @@ impl Iri {
         }
     }
 
-    // The IRI of a text that is one's.
-    pub(crate) fn of_grammar(text: Text) -> Iri
+    /// The IRI of a text that is one's, which isn't looked at again.
+    pub fn of_grammar(text: Text) -> Iri
         requires { IsTrue (is_iri text) }
         ensures { result ≡ text }
     {

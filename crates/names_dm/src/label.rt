@@ -8,7 +8,7 @@ use std::marker::Model;
 use value_dm::{Text, TryCopy};
 
 /// The label of a blank node, as it stands after `_:` (RDF 1.1 N-Triples, section 7). Contracts see its characters.
-#[derive(PartialEq, Eq, Drop)]
+#[derive(PartialEq, Eq, Hash, Drop)]
 pub struct Label {
     text: Text,
 }
@@ -105,6 +105,14 @@ impl Label {
         } else {
             None
         }
+    }
+
+    /// The label of a text that is one's, which isn't looked at again.
+    pub fn of_grammar(text: Text) -> Label
+        requires { IsTrue (is_label text) }
+        ensures { result ≡ text }
+    {
+        Label { text }
     }
 
     /// The characters.

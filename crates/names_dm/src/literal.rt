@@ -8,7 +8,7 @@ use std::marker::Model;
 use value_dm::{Text, TryCopy};
 
 /// What stands beside a literal's text.
-#[derive(PartialEq, Eq, Drop)]
+#[derive(PartialEq, Eq, Hash, Drop)]
 pub enum LiteralType {
     Plain,
     Typed(Iri),
@@ -29,7 +29,7 @@ const XSD_STRING: &str = "http://www.w3.org/2001/XMLSchema#string";
 
 /// A literal (RDF 1.1 Concepts, section 3.3), which contracts see as its text and its type. A plain one has the type
 /// xsd:string, so that type is never kept beside a text.
-#[derive(PartialEq, Eq, Drop)]
+#[derive(PartialEq, Eq, Hash, Drop)]
 pub struct Literal {
     text: Text,
     kind: LiteralType,

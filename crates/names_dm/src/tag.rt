@@ -9,7 +9,7 @@ use value_dm::{Text, TryCopy};
 
 /// A language tag, as it stands after `@` (RDF 1.1 N-Triples, section 7, LANGTAG). Contracts see its characters, and
 /// tags are compared as they are written.
-#[derive(PartialEq, Eq, Drop)]
+#[derive(PartialEq, Eq, Hash, Drop)]
 pub struct Tag {
     text: Text,
 }
@@ -62,6 +62,14 @@ impl Tag {
         } else {
             None
         }
+    }
+
+    /// The tag of a text that is one's, which isn't looked at again.
+    pub fn of_grammar(text: Text) -> Tag
+        requires { IsTrue (is_tag text) }
+        ensures { result ≡ text }
+    {
+        Tag { text }
     }
 
     /// The characters.

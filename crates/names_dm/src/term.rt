@@ -8,7 +8,7 @@ use std::alloc::{AllocError, Global};
 use value_dm::TryCopy;
 
 /// An RDF term (RDF 1.1 Concepts, section 3.1).
-#[derive(PartialEq, Eq, Drop)]
+#[derive(PartialEq, Eq, Hash, Drop)]
 pub enum Term {
     Iri(Iri),
     Blank(Label),

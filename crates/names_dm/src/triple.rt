@@ -45,6 +45,18 @@ impl Triple {
         }
     }
 
+    /// The three terms, the predicate as a term too.
+    pub fn into_terms(self) -> (Term, Term, Term)
+        ensures { result ≡ record { 0 = self.subject; 1 = Term.Iri self.predicate; 2 = self.object } }
+    {
+        let Triple {
+            subject,
+            predicate,
+            object,
+        } = self;
+        (subject, Term::Iri(predicate), object)
+    }
+
     /// The subject, which is no literal.
     pub fn subject(&self) -> &Term
         ensures subject { result.now ≡ self.now.subject }

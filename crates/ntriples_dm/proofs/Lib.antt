@@ -1,2 +1,2 @@
 mod Pieces
-mod Quotes
+pub mod Quotes

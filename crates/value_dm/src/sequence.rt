@@ -43,6 +43,13 @@ impl<T> Sequence<T> {
         }
     }
 
+    /// The list of a vector's items, which takes no memory.
+    pub fn from_vec(items: Vec<T>) -> Sequence<T>
+        ensures { result ≡ items.items }
+    {
+        Sequence { items }
+    }
+
     /// Appends the item. For want of memory it gives the item back and changes nothing.
     pub fn push(&mut self, item: T) -> Result<(), AllocFailed<T>>
         ensures ok { OnOk result (self.new ≡ self.old ++ item ∷ []) }
@@ -62,6 +69,13 @@ impl<T> Sequence<T> {
         ensures { result ≡ length self.now }
     {
         self.items.len()
+    }
+
+    /// The items in order, as a vector of their own.
+    pub fn into_vec(self) -> Vec<T>
+        ensures { result.items ≡ self }
+    {
+        self.items
     }
 
     /// The items in order.

@@ -1,8 +1,9 @@
-ghost use Rattle.std.specs.Prelude.{◌≡◌, IfOk, chars, encode_utf8_all};
+ghost use Rattle.std.specs.Prelude.{◌≡◌, IfOk, chars, encode_utf8_all, string_bytes};
 
 use crate::copies::TryCopy;
 use std::alloc::{AllocError, Global};
 use std::cmp::Ordering;
+use std::hash::{Hash, Hasher};
 use std::marker::Model;
 
 /// A text, which contracts see as the list of its characters. It keeps its allocator.
@@ -28,6 +29,13 @@ impl Text {
         Ok(Text {
             string: String::from_str(alloc, text)?,
         })
+    }
+
+    /// The text of a string's characters, which takes no memory.
+    pub fn from_string(string: String) -> Text
+        ensures { result ≡ chars (string_bytes string) }
+    {
+        Text { string }
     }
 
     /// The characters.
@@ -63,6 +71,21 @@ impl Eq for Text {
     ghost use Rattle.std.specs.Cmp.Lexicographic.{nat_list_eq_equiv};
 
     ghost laws = { nat_list_eq_equiv };
+}
+
+impl Hash for Text {
+    ghost use Rattle.std.specs.Cmp.Rules.{hashing};
+    ghost use Rattle.std.specs.Hash as fed;
+    ghost use Rattle.std.specs.Prelude.{encode_utf8_all};
+    ghost use Rattle.std.proofs.Common.{rules};
+
+    ghost hash_input = { λ a. fed.str (encode_utf8_all a) };
+
+    ghost respects_eq = { Prim.search (hashing, rules) };
+
+    fn hash<H: Hasher>(&self, state: &mut H) {
+        self.as_str().hash(state);
+    }
 }
 
 impl Ord for Text {
