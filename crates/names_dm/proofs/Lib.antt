@@ -13,7 +13,7 @@ mod RowLabels
 mod SafeForms
 mod TextLists
 mod Told
-mod Utf8
+pub mod Utf8
 mod VariableLaws
-mod Words
+pub mod Words
 pub mod Yielded
