@@ -5,7 +5,7 @@ use Rattle.std.proofs.lemmas.Grind.{flat_map-append}
 use Rattle.std.specs.List.{flat_map}
 use Rattle.members_dm.specs.Places.{items_of, levels, one_item, under}
 use Rattle.members_dm.proofs.PlacesLemmas.{items_of-front, items_of-level, items_of-no_level, items_of-none, items_of-one, items_of-under}
-use Rattle.names_dm.specs.Facts.{Fact, Node}
+use Rattle.facts_dm.specs.Facts.{Fact, Node}
 use Rattle.outside_dm.specs.Sinks.{SinkState}
 use Rattle.outside_dm.specs.Putting.{Writes, Written}
 use Rattle.outside_dm.proofs.Putting.{Writes-all, Writes-cut, Writes-cut_first, Writes-same, Writes-short, Writes-then, Written-nothing, Written-same, Written-then}

@@ -3,7 +3,6 @@ pub mod NodeLaws
 mod KeyNodes
 mod LevelTexts
 pub mod DirectLevels
-mod Words
 mod TripleParts
 mod Keys
 mod RowParts

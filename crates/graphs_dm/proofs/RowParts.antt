@@ -7,7 +7,7 @@ use Rattle.outside_dm.proofs.Putting.{Writes-same, Written-all}
 use Rattle.outside_dm.specs.declared.sink.PutError.{PutError}
 use Rattle.schema_dm.specs.Schemas.{table_at}
 use Rattle.schema_dm.specs.declared.table.Table.{Table}
-use Rattle.names_dm.specs.Facts.{node_term}
+use Rattle.facts_dm.specs.Facts.{node_term}
 use Rattle.names_dm.specs.declared.term.Term.{Term}
 use Rattle.table_csv.specs.Cells.{Row}
 use Rattle.table_csv.specs.Databases.{Data, rows_at}

@@ -1,6 +1,6 @@
 -- Terms of nodes, and what follows of results.
 use Rattle.std.proofs.Common.{◌≡◌, refl, IfOk, Result, Ok, Err}
-use Rattle.names_dm.specs.Facts.{Node, iri, blank, node_term}
+use Rattle.facts_dm.specs.Facts.{Node, iri, blank, node_term}
 use Rattle.graphs_dm.specs.Subjects.{node_of}
 
 -- the node of a node's term

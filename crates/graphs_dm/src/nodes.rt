@@ -1,8 +1,9 @@
 ghost use Rattle.std.specs.Prelude.{◌≡◌, ◌+◌, ◌<◌, ◌^◌, ◌++◌, None, IfOk, OnOk, length, slice_index_or, if◌then◌else◌};
-ghost use Rattle.names_dm.specs.Facts.{node_term, iri, blank};
+ghost use Rattle.facts_dm.specs.Facts.{node_term, iri, blank};
 ghost use Rattle.names_dm.specs.Rows.{row_iri};
 ghost use Rattle.graphs_dm.specs.Flags.{AreOwnKeys};
-ghost use Rattle.graphs_dm.specs.Nodes.{key_parts, name_at, part_of, primary_parts, row_label, row_node};
+ghost use Rattle.names_dm.specs.Labels.{row_label};
+ghost use Rattle.graphs_dm.specs.Nodes.{key_parts, name_at, part_of, primary_parts, row_node};
 ghost use Rattle.graphs_dm.specs.OwnNodes.{HasRow};
 
 use crate::flags::OwnKeys;

@@ -1,61 +1,16 @@
 ghost use Rattle.std.specs.Prelude.{◌≡◌, ◌<◌, false, IfOk, IsTrue, length, map};
-ghost use Rattle.std.specs.List.{list_all};
-ghost use Rattle.names_dm.specs.Facts.{literal_term, literal_type, triple_of};
+ghost use Rattle.facts_dm.specs.Facts.{literal_term, triple_of};
 ghost use Rattle.names_dm.specs.Statements.{is_literal};
-ghost use Rattle.names_dm.specs.Terminals.{is_mark};
 ghost use Rattle.graphs_dm.specs.DirectGraph.{literal_fact, reference_fact, type_fact, value_text};
 ghost use Rattle.graphs_dm.specs.Nodes.{name_at};
 ghost use Rattle.graphs_dm.specs.Subjects.{node_of};
 
 use crate::nodes::name_at;
-use names_dm::{Base, Iri, Literal, LiteralType, Term, Triple, column_iri, ref_iri, table_iri};
+use facts_dm::{Word, literal_type};
+use names_dm::{Base, Literal, Term, Triple, column_iri, ref_iri, table_iri};
 use schema_dm::{Column, ForeignKey, Table};
 use std::alloc::{AllocError, Global};
-use value_dm::{Kind, Names, Text, TryCopy, Value, lexical};
-
-const RDF_TYPE: &str = "http://www.w3.org/1999/02/22-rdf-syntax-ns#type";
-
-const XSD_INTEGER: &str = "http://www.w3.org/2001/XMLSchema#integer";
-
-const XSD_DECIMAL: &str = "http://www.w3.org/2001/XMLSchema#decimal";
-
-const XSD_BOOLEAN: &str = "http://www.w3.org/2001/XMLSchema#boolean";
-
-const XSD_DATE: &str = "http://www.w3.org/2001/XMLSchema#date";
-
-const XSD_TIME: &str = "http://www.w3.org/2001/XMLSchema#time";
-
-const XSD_DATE_TIME: &str = "http://www.w3.org/2001/XMLSchema#dateTime";
-
-const XSD_HEX_BINARY: &str = "http://www.w3.org/2001/XMLSchema#hexBinary";
-
-// The IRI of a text in ASCII.
-fn word(alloc: Global, text: &str) -> Result<Iri, AllocError>
-    requires { IsTrue (list_all is_mark text.now) }
-    ensures { IfOk result (λ iri. iri ≡ text.now) }
-{
-    match Iri::new(Text::from_str(alloc, text)?) {
-        Some(iri) => Ok(iri),
-        None => unreachable!(),
-    }
-}
-
-// The type of a literal of this kind (R2RML, section 10.2).
-fn literal_type(alloc: Global, kind: Kind) -> Result<LiteralType, AllocError>
-    ensures { IfOk result (λ type_of. type_of ≡ literal_type kind) }
-{
-    let datatype = match kind {
-        Kind::Text => return Ok(LiteralType::Plain),
-        Kind::Integer => XSD_INTEGER,
-        Kind::Decimal => XSD_DECIMAL,
-        Kind::Boolean => XSD_BOOLEAN,
-        Kind::Date => XSD_DATE,
-        Kind::Time => XSD_TIME,
-        Kind::DateTime => XSD_DATE_TIME,
-        Kind::Binary => XSD_HEX_BINARY,
-    };
-    Ok(LiteralType::Typed(word(alloc, datatype)?))
-}
+use value_dm::{Names, Text, TryCopy, Value, lexical};
 
 /// The row type triple. Refused for want of memory alone, as are the others.
 pub fn type_triple(
@@ -68,7 +23,7 @@ pub fn type_triple(
     ensures { IfOk result (λ triple. triple ≡ triple_of base.now (type_fact (node_of subject.now) table.now)) }
 {
     let class = table_iri(alloc, base, table.name.as_str())?;
-    let predicate = word(alloc, RDF_TYPE)?;
+    let predicate = Word::RdfType.iri(alloc)?;
     Ok(Triple::new(subject.copy(alloc)?, predicate, Term::Iri(class)).unwrap())
 }
 

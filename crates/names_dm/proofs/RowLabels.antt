@@ -6,6 +6,7 @@ use Rattle.std.proofs.lemmas.Str.{IsAscii-append}
 use Rattle.std.specs.Fmt.{decimal}
 use Rattle.std.specs.List.{list_all}
 use Rattle.std.specs.Str.{IsAscii}
+use Rattle.names_dm.specs.Labels.{row_label}
 use Rattle.names_dm.specs.Terminals.{begins_label, continues_label, is_label, last_of}
 use Rattle.names_dm.proofs.Ascii.{ascii_cons}
 use Rattle.names_dm.proofs.Words.{last_of-push, list_all-push}
@@ -51,7 +52,7 @@ table_begins : begins_label 116 ≡ true
 unfolding begins_label
 table_begins = refl
 
-pub row_label_is : (t r : ℕ) → t < 2 ^ 64 → r < 2 ^ 64 → is_label (116 ∷ decimal t ++ 114 ∷ decimal r) ≡ true
+pub row_label_is : (t r : ℕ) → t < 2 ^ 64 → r < 2 ^ 64 → is_label (row_label t r) ≡ true
 unfolding EndsWell
 row_label_is t r small_t small_r =
     let table = ends_well t small_t in
@@ -59,6 +60,6 @@ row_label_is t r small_t small_r =
     let rest : list_all continues_label (114 ∷ decimal r) ≡ true = rw (row_continues) row.0 in
     rw (table_begins, list_all-append continues_label (decimal t) (114 ∷ decimal r) table.0 rest, last_of-append 116 114 (decimal t) (decimal r)) (row.1 114)
 
-pub row_label_ascii : (t r : ℕ) → t < 2 ^ 64 → r < 2 ^ 64 → IsAscii (116 ∷ decimal t ++ 114 ∷ decimal r)
+pub row_label_ascii : (t r : ℕ) → t < 2 ^ 64 → r < 2 ^ 64 → IsAscii (row_label t r)
 row_label_ascii t r small_t small_r =
     ascii_cons 116 _ (omega arith) (IsAscii-append (decimal t) (114 ∷ decimal r) (IsAscii-decimal t small_t) (ascii_cons 114 (decimal r) (omega arith) (IsAscii-decimal r small_r)))

@@ -1,10 +1,9 @@
 pub mod Apart
 pub mod Characters
 pub mod Decided
-pub mod Facts
 pub mod IriSafe
+pub mod Labels
 pub mod Literals
-pub mod Meanings
 pub mod Names
 pub mod Namespaces
 pub mod Reading

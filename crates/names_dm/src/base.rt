@@ -1,7 +1,6 @@
 ghost use Rattle.std.specs.Prelude.{◌≡◌, ◌↔◌, IfOk, IsOk, IsTrue, chars, encode_utf8_all};
 ghost use Rattle.std.specs.List.{list_all};
 ghost use Rattle.names_dm.specs.Characters.{is_ascii};
-ghost use Rattle.names_dm.specs.Meanings.{NamingLaws};
 ghost use Rattle.names_dm.specs.Namespaces.{is_base, one_begins};
 
 use crate::iri::is_iri;
@@ -63,14 +62,11 @@ fn is_base(text: &Text) -> bool
 }
 
 impl Base {
-    /// The base of this text, below which no name has the IRI of a word of these vocabularies, and a triple says one
-    /// thing only. Refused exactly where it is empty, where it holds a character that IRIREF forbids, and
+    /// The base of this text. Refused exactly where it is empty, where it holds a character that IRIREF forbids, and
     /// where it is a front of one of the namespaces rdf, rdfs, owl and xsd or begins with one.
-    #[tactic(auto, using(crate::proofs::NamingInstance::naming_laws))]
     pub fn new(text: Text) -> Result<Base, BadBase>
         ensures grammar { IsOk result ↔ IsTrue (is_base text) }
         ensures text { IfOk result (λ base. base ≡ text) }
-        ensures laws { IfOk result NamingLaws }
     {
         if is_base(&text) {
             Ok(Base { text })
@@ -80,12 +76,10 @@ impl Base {
     }
 
     /// The characters.
-    #[tactic(auto, using(crate::proofs::NamingInstance::naming_laws))]
     pub fn as_str(&self) -> &str
         ensures bytes { result.now ≡ encode_utf8_all self.now }
         ensures chars { chars result.now ≡ self.now }
         ensures grammar { IsTrue (is_base self.now) }
-        ensures laws { NamingLaws self.now }
     {
         self.text.as_str()
     }

@@ -1,5 +1,5 @@
 ghost use Rattle.std.specs.Prelude.{◌≡◌, ◌↔◌, ◌++◌, ◌∷◌, IfOk, IfSome, IsSome, IsTrue, chars, encode_utf8_all};
-ghost use Rattle.std.specs.Fmt.{decimal};
+ghost use Rattle.names_dm.specs.Labels.{row_label};
 ghost use Rattle.names_dm.specs.Terminals.{begins_label, continues_label, is_label, is_pn, is_pn_base, is_pn_u};
 
 use crate::characters::{between, is_ascii_digit, is_ascii_letter};
@@ -136,7 +136,7 @@ impl TryCopy for Label {
 /// The label `t<table>r<row>` of a row's blank node, the numbers written as they are given. Refused for want of memory
 /// alone.
 pub fn row_label(alloc: Global, table: u64, row: u64) -> Result<Label, AllocError>
-    ensures { IfOk result (λ label. label ≡ 116 ∷ decimal table ++ 114 ∷ decimal row) }
+    ensures { IfOk result (λ label. label ≡ row_label table row) }
 {
     let text = format!(in alloc; "t{table}r{row}")?;
     Ok(Label {

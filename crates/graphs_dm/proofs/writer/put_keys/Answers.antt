@@ -6,7 +6,7 @@ use Rattle.outside_dm.specs.Sinks.{SinkState}
 use Rattle.outside_dm.specs.declared.sink.PutError.{PutError}
 use Rattle.schema_dm.specs.declared.table.ForeignKey.{ForeignKey}
 use Rattle.schema_dm.specs.declared.table.Table.{Table}
-use Rattle.names_dm.specs.Facts.{Node}
+use Rattle.facts_dm.specs.Facts.{Node}
 use Rattle.table_csv.specs.Cells.{Row}
 use Rattle.table_csv.specs.Databases.{Data}
 use Rattle.graphs_dm.specs.Levels.{key_level, text_of}

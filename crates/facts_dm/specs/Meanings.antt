@@ -8,7 +8,10 @@ use Rattle.names_dm.specs.declared.names.RefName.{RefName}
 use Rattle.names_dm.specs.declared.names.RelName.{RelName}
 use Rattle.names_dm.specs.declared.literal.LiteralType.{LiteralType}
 use Rattle.names_dm.specs.declared.literal.LiteralType.TheVariants as type
-use Rattle.names_dm.specs.Facts.{Fact, KindText, Link, Word, class_word, datatype_iri, datatype_property_word, datatype_word, different_word, domain_word, link_iri, literal_type, object_property_word, range_word, ref_link, rel_link, triple_of, type_word, word_iri}
+use Rattle.facts_dm.specs.declared.word.Word.{Word}
+use Rattle.facts_dm.specs.declared.word.Word.TheVariants.{RdfType, RdfsDomain, RdfsRange, OwlDifferentFrom, OwlClass, OwlDatatypeProperty, OwlObjectProperty, Datatype}
+use Rattle.facts_dm.specs.Facts.{Fact, KindText, Link, link_iri, ref_link, rel_link, triple_of}
+use Rattle.facts_dm.specs.Vocabulary.{datatype_iri, literal_type, word_iri}
 use Rattle.names_dm.specs.Literals.{LiteralValue}
 use Rattle.names_dm.specs.Names.{column_iri, number_sign, table_iri}
 use Rattle.names_dm.specs.Reading.{after, cut_at, local_parts, told_column, told_ref, told_rel, unsafe_form}
@@ -30,10 +33,10 @@ kinds = kind.Text ∷ kind.Integer ∷ kind.Decimal ∷ kind.Boolean ∷ kind.Da
 
 abbrev pub datatype_words : List Kind → List Word
 datatype_words [] = []
-datatype_words (k ∷ ks) = datatype_word k ∷ datatype_words ks
+datatype_words (k ∷ ks) = Datatype k ∷ datatype_words ks
 
 abbrev pub words : List Word
-words = type_word ∷ domain_word ∷ range_word ∷ different_word ∷ class_word ∷ datatype_property_word ∷ object_property_word ∷ datatype_words kinds
+words = RdfType ∷ RdfsDomain ∷ RdfsRange ∷ OwlDifferentFrom ∷ OwlClass ∷ OwlDatatypeProperty ∷ OwlObjectProperty ∷ datatype_words kinds
 
 unfoldable pub word_of : List ℕ → Meaning
 word_of text = find_word text words

@@ -1,19 +1,17 @@
 -- What one triple of a database's graph says, and the triples that say it.
 use Rattle.std.specs.Prelude.{ℕ, ◌++◌, List, [], ◌∷◌, codes}
 use Rattle.value_dm.specs.declared.kind.Kind.{Kind}
-use Rattle.value_dm.specs.declared.kind.Kind.TheVariants as kind
 use Rattle.names_dm.specs.declared.names.ColumnName.{ColumnName}
 use Rattle.names_dm.specs.declared.names.RefName.{RefName}
 use Rattle.names_dm.specs.declared.names.RelName.{RelName}
-use Rattle.names_dm.specs.declared.literal.LiteralType.{LiteralType}
-use Rattle.names_dm.specs.declared.literal.LiteralType.TheVariants as type
 use Rattle.names_dm.specs.declared.term.Term.{Term}
 use Rattle.names_dm.specs.declared.term.Term.TheVariants as term
 use Rattle.names_dm.specs.IriSafe.{safe_form}
-use Rattle.names_dm.specs.Literals.{xsd_string}
 use Rattle.names_dm.specs.Names.{column_iri, number_sign, ref_iri, rel_iri, table_iri}
-use Rattle.names_dm.specs.Namespaces.{owl, rdf, rdfs, xsd}
 use Rattle.names_dm.specs.Statements.{Statement}
+use Rattle.facts_dm.specs.declared.word.Word.{Word}
+use Rattle.facts_dm.specs.declared.word.Word.TheVariants.{RdfType, RdfsDomain, RdfsRange, OwlDifferentFrom, OwlClass, OwlDatatypeProperty, OwlObjectProperty, Datatype}
+use Rattle.facts_dm.specs.Vocabulary.{literal_type, word_iri}
 
 -- what can be a subject
 pub data Node : Type 0 where
@@ -28,28 +26,6 @@ node_term (blank label) = term.Blank label
 pub record KindText : Type 0 where
   pub kind : Kind
   pub text : List ℕ
-
--- R2RML, section 10.2: the datatype of a kind; a text has the type xsd:string
-abbrev pub datatype_iri : Kind → List ℕ
-datatype_iri kind.Text = xsd_string
-datatype_iri kind.Integer = xsd ++ codes "integer"
-datatype_iri kind.Decimal = xsd ++ codes "decimal"
-datatype_iri kind.Boolean = xsd ++ codes "boolean"
-datatype_iri kind.Date = xsd ++ codes "date"
-datatype_iri kind.Time = xsd ++ codes "time"
-datatype_iri kind.DateTime = xsd ++ codes "dateTime"
-datatype_iri kind.Binary = xsd ++ codes "hexBinary"
-
--- a text's literal is plain
-abbrev pub literal_type : Kind → LiteralType
-literal_type kind.Text = type.Plain
-literal_type kind.Integer = type.Typed (datatype_iri kind.Integer)
-literal_type kind.Decimal = type.Typed (datatype_iri kind.Decimal)
-literal_type kind.Boolean = type.Typed (datatype_iri kind.Boolean)
-literal_type kind.Date = type.Typed (datatype_iri kind.Date)
-literal_type kind.Time = type.Typed (datatype_iri kind.Time)
-literal_type kind.DateTime = type.Typed (datatype_iri kind.DateTime)
-literal_type kind.Binary = type.Typed (datatype_iri kind.Binary)
 
 abbrev pub literal_term : KindText → Term
 literal_term value = term.Literal (record { text = value.text; kind = literal_type value.kind })
@@ -67,27 +43,6 @@ ref_link_iri base table (column ∷ columns) = ref_iri base record { table = tab
 abbrev pub link_iri : List ℕ → Link → List ℕ
 link_iri base (ref_link name) = ref_link_iri base name.table name.columns
 link_iri base (rel_link name) = rel_iri base name
-
--- the words of the vocabularies
-pub data Word : Type 0 where
-  type_word : Word
-  domain_word : Word
-  range_word : Word
-  different_word : Word
-  class_word : Word
-  datatype_property_word : Word
-  object_property_word : Word
-  datatype_word : Kind → Word
-
-abbrev pub word_iri : Word → List ℕ
-word_iri type_word = rdf ++ codes "type"
-word_iri domain_word = rdfs ++ codes "domain"
-word_iri range_word = rdfs ++ codes "range"
-word_iri different_word = owl ++ codes "differentFrom"
-word_iri class_word = owl ++ codes "Class"
-word_iri datatype_property_word = owl ++ codes "DatatypeProperty"
-word_iri object_property_word = owl ++ codes "ObjectProperty"
-word_iri (datatype_word k) = datatype_iri k
 
 -- what one triple says
 pub data Fact : Type 0 where
@@ -120,17 +75,17 @@ table_term base table = term.Iri (table_iri base table)
 
 -- the triple that says it
 abbrev pub triple_of : List ℕ → Fact → Statement
-triple_of base (a_class t) = record { subject = table_term base t; predicate = word_iri type_word; object = word_term class_word }
+triple_of base (a_class t) = record { subject = table_term base t; predicate = word_iri RdfType; object = word_term OwlClass }
 triple_of base (a_property c) =
-    record { subject = term.Iri (column_iri base c); predicate = word_iri type_word; object = word_term datatype_property_word }
+    record { subject = term.Iri (column_iri base c); predicate = word_iri RdfType; object = word_term OwlDatatypeProperty }
 triple_of base (an_object l) =
-    record { subject = term.Iri (link_iri base l); predicate = word_iri type_word; object = word_term object_property_word }
-triple_of base (a_domain i t) = record { subject = term.Iri i; predicate = word_iri domain_word; object = table_term base t }
+    record { subject = term.Iri (link_iri base l); predicate = word_iri RdfType; object = word_term OwlObjectProperty }
+triple_of base (a_domain i t) = record { subject = term.Iri i; predicate = word_iri RdfsDomain; object = table_term base t }
 triple_of base (a_range c k) =
-    record { subject = term.Iri (column_iri base c); predicate = word_iri range_word; object = word_term (datatype_word k) }
+    record { subject = term.Iri (column_iri base c); predicate = word_iri RdfsRange; object = word_term (Datatype k) }
 triple_of base (a_link_range l t) =
-    record { subject = term.Iri (link_iri base l); predicate = word_iri range_word; object = table_term base t }
-triple_of base (a_node n t) = record { subject = node_term n; predicate = word_iri type_word; object = table_term base t }
+    record { subject = term.Iri (link_iri base l); predicate = word_iri RdfsRange; object = table_term base t }
+triple_of base (a_node n t) = record { subject = node_term n; predicate = word_iri RdfType; object = table_term base t }
 triple_of base (a_cell n c v) = record { subject = node_term n; predicate = column_iri base c; object = literal_term v }
 triple_of base (a_link n l m) = record { subject = node_term n; predicate = link_iri base l; object = node_term m }
-triple_of base (a_mark n) = record { subject = node_term n; predicate = word_iri different_word; object = node_term n }
+triple_of base (a_mark n) = record { subject = node_term n; predicate = word_iri OwlDifferentFrom; object = node_term n }

@@ -8,14 +8,17 @@ use Rattle.value_dm.specs.declared.kind.Kind.TheVariants as kind
 use Rattle.names_dm.specs.declared.names.ColumnName.{ColumnName}
 use Rattle.names_dm.specs.declared.term.Term.{Term}
 use Rattle.names_dm.specs.declared.term.Term.TheVariants as term
-use Rattle.names_dm.specs.Facts.{Fact, KindText, Link, Node, Word, a_cell, a_class, a_domain, a_link, a_link_range, a_mark, a_node, a_property, a_range, an_object, blank, class_word, datatype_property_word, datatype_word, different_word, domain_word, iri, link_iri, literal_type, node_term, object_property_word, range_word, ref_link, rel_link, triple_of, type_word, word_iri}
 use Rattle.names_dm.specs.IriSafe.{safe_form}
-use Rattle.names_dm.specs.Meanings.{Meaning, NamingLaws, kind_told, meaning, of_nothing, of_property, of_table, of_word, told_link, value_told, word_of}
 use Rattle.names_dm.specs.Names.{column_list, number_sign, pairing, semicolon, table_iri}
 use Rattle.names_dm.specs.Namespaces.{is_base, is_empty_text, namespaces, one_begins, owl, rdf, rdfs, xsd}
 use Rattle.names_dm.specs.Reading.{after, cut_at, told_column, told_ref, told_rel}
 use Rattle.names_dm.specs.Statements.{Statement}
 use Rattle.names_dm.specs.Terminals.{is_iri}
+use Rattle.facts_dm.specs.declared.word.Word.{Word}
+use Rattle.facts_dm.specs.declared.word.Word.TheVariants.{RdfType, RdfsDomain, RdfsRange, OwlDifferentFrom, OwlClass, OwlDatatypeProperty, OwlObjectProperty, Datatype}
+use Rattle.facts_dm.specs.Facts.{Fact, KindText, Link, Node, a_cell, a_class, a_domain, a_link, a_link_range, a_mark, a_node, a_property, a_range, an_object, blank, iri, link_iri, node_term, ref_link, rel_link, triple_of}
+use Rattle.facts_dm.specs.Meanings.{Meaning, NamingLaws, kind_told, meaning, of_nothing, of_property, of_table, of_word, told_link, value_told, word_of}
+use Rattle.facts_dm.specs.Vocabulary.{literal_type, word_iri}
 use Rattle.names_dm.proofs.Ascii.{and_parts}
 use Rattle.names_dm.proofs.Parts.{after-append, cut_at-append, eqb-same, lacks}
 use Rattle.names_dm.proofs.ReadBack.{unsafe_form-safe_form}
@@ -58,7 +61,7 @@ in_space base space local apart =
     let h = or_parts (starts_with nat_eq base space) (starts_with nat_eq space base) apart in
     outside base space local h.1 h.0
 
-datatype_outside : (base : List ℕ) (k : Kind) → one_begins base xsd ≡ false → after base (word_iri (datatype_word k)) ≡ None
+datatype_outside : (base : List ℕ) (k : Kind) → one_begins base xsd ≡ false → after base (word_iri (Datatype k)) ≡ None
 datatype_outside base kind.Text apart = in_space base xsd (codes "string") apart
 datatype_outside base kind.Integer apart = in_space base xsd (codes "integer") apart
 datatype_outside base kind.Decimal apart = in_space base xsd (codes "decimal") apart
@@ -69,16 +72,16 @@ datatype_outside base kind.DateTime apart = in_space base xsd (codes "dateTime")
 datatype_outside base kind.Binary apart = in_space base xsd (codes "hexBinary") apart
 
 word_outside : (base : List ℕ) (w : Word) → is_base base ≡ true → after base (word_iri w) ≡ None
-word_outside base type_word ok = in_space base rdf (codes "type") (apart_each base ok).0
-word_outside base domain_word ok = in_space base rdfs (codes "domain") (apart_each base ok).1.0
-word_outside base range_word ok = in_space base rdfs (codes "range") (apart_each base ok).1.0
-word_outside base different_word ok = in_space base owl (codes "differentFrom") (apart_each base ok).1.1.0
-word_outside base class_word ok = in_space base owl (codes "Class") (apart_each base ok).1.1.0
-word_outside base datatype_property_word ok = in_space base owl (codes "DatatypeProperty") (apart_each base ok).1.1.0
-word_outside base object_property_word ok = in_space base owl (codes "ObjectProperty") (apart_each base ok).1.1.0
-word_outside base (datatype_word k) ok = datatype_outside base k (apart_each base ok).1.1.1
+word_outside base RdfType ok = in_space base rdf (codes "type") (apart_each base ok).0
+word_outside base RdfsDomain ok = in_space base rdfs (codes "domain") (apart_each base ok).1.0
+word_outside base RdfsRange ok = in_space base rdfs (codes "range") (apart_each base ok).1.0
+word_outside base OwlDifferentFrom ok = in_space base owl (codes "differentFrom") (apart_each base ok).1.1.0
+word_outside base OwlClass ok = in_space base owl (codes "Class") (apart_each base ok).1.1.0
+word_outside base OwlDatatypeProperty ok = in_space base owl (codes "DatatypeProperty") (apart_each base ok).1.1.0
+word_outside base OwlObjectProperty ok = in_space base owl (codes "ObjectProperty") (apart_each base ok).1.1.0
+word_outside base (Datatype k) ok = datatype_outside base k (apart_each base ok).1.1.1
 
-datatype_found : (k : Kind) → word_of (word_iri (datatype_word k)) ≡ of_word (datatype_word k)
+datatype_found : (k : Kind) → word_of (word_iri (Datatype k)) ≡ of_word (Datatype k)
 unfolding word_of
 datatype_found kind.Text = refl
 datatype_found kind.Integer = refl
@@ -91,14 +94,14 @@ datatype_found kind.Binary = refl
 
 word_found : (w : Word) → word_of (word_iri w) ≡ of_word w
 unfolding word_of
-word_found type_word = refl
-word_found domain_word = refl
-word_found range_word = refl
-word_found different_word = refl
-word_found class_word = refl
-word_found datatype_property_word = refl
-word_found object_property_word = refl
-word_found (datatype_word k) = datatype_found k
+word_found RdfType = refl
+word_found RdfsDomain = refl
+word_found RdfsRange = refl
+word_found OwlDifferentFrom = refl
+word_found OwlClass = refl
+word_found OwlDatatypeProperty = refl
+word_found OwlObjectProperty = refl
+word_found (Datatype k) = datatype_found k
 
 word_means : (base : List ℕ) (w : Word) → is_base base ≡ true → meaning base (word_iri w) ≡ of_word w
 unfolding meaning
@@ -184,9 +187,9 @@ class_told i of_nothing = None
 
 -- by what the object of a type triple is
 by_type : List ℕ → Term → Meaning → Option Fact
-by_type base (term.Iri i) (of_word class_word) = class_told i (meaning base i)
-by_type base (term.Iri i) (of_word datatype_property_word) = option_and_then (λ c. Some (a_property c)) (told_column base i)
-by_type base (term.Iri i) (of_word object_property_word) = option_and_then (λ l. Some (an_object l)) (told_link base i)
+by_type base (term.Iri i) (of_word OwlClass) = class_told i (meaning base i)
+by_type base (term.Iri i) (of_word OwlDatatypeProperty) = option_and_then (λ c. Some (a_property c)) (told_column base i)
+by_type base (term.Iri i) (of_word OwlObjectProperty) = option_and_then (λ l. Some (an_object l)) (told_link base i)
 by_type base subject (of_table t) = option_and_then (λ n. Some (a_node n t)) (node_of subject)
 by_type base subject _ = None
 
@@ -204,7 +207,7 @@ domain_told base subject object = None
 
 by_range : List ℕ → List ℕ → Meaning → Option Fact
 by_range base i (of_table t) = option_and_then (λ l. Some (a_link_range l t)) (told_link base i)
-by_range base i (of_word (datatype_word k)) = option_and_then (λ c. Some (a_range c k)) (told_column base i)
+by_range base i (of_word (Datatype k)) = option_and_then (λ c. Some (a_range c k)) (told_column base i)
 by_range base i _ = None
 
 range_told : List ℕ → Term → Term → Option Fact
@@ -225,10 +228,10 @@ by_object base predicate n (term.Iri text) = linked n (iri text) (told_link base
 by_object base predicate n (term.Blank label) = linked n (blank label) (told_link base predicate)
 
 by_predicate : List ℕ → Statement → Meaning → Option Fact
-by_predicate base s (of_word type_word) = type_told base s.subject s.object
-by_predicate base s (of_word domain_word) = domain_told base s.subject s.object
-by_predicate base s (of_word range_word) = range_told base s.subject s.object
-by_predicate base s (of_word different_word) = option_and_then (λ n. Some (a_mark n)) (node_of s.subject)
+by_predicate base s (of_word RdfType) = type_told base s.subject s.object
+by_predicate base s (of_word RdfsDomain) = domain_told base s.subject s.object
+by_predicate base s (of_word RdfsRange) = range_told base s.subject s.object
+by_predicate base s (of_word OwlDifferentFrom) = option_and_then (λ n. Some (a_mark n)) (node_of s.subject)
 by_predicate base s of_property = option_and_then (λ n. by_object base s.predicate n s.object) (node_of s.subject)
 by_predicate base s _ = None
 
@@ -252,17 +255,17 @@ by_type-table base t (blank label) = refl
 
 fact_back : (base : List ℕ) (f : Fact) → is_base base ≡ true → fact_told base (triple_of base f) ≡ Some f
 unfolding fact_told by_predicate type_told by_type class_told domain_told by_domain range_told by_range by_object cell_told linked
-fact_back base (a_class t) ok = rw (word_means base type_word ok, word_means base class_word ok, table_means base t) refl
-fact_back base (a_property c) ok = rw (word_means base type_word ok, word_means base datatype_property_word ok, told_column-column base c) refl
-fact_back base (an_object l) ok = rw (word_means base type_word ok, word_means base object_property_word ok, link_back base l) refl
-fact_back base (a_domain i t) ok = rw (word_means base domain_word ok, table_means base t) refl
-fact_back base (a_range c k) ok = rw (word_means base range_word ok, word_means base (datatype_word k) ok, told_column-column base c) refl
-fact_back base (a_link_range l t) ok = rw (word_means base range_word ok, table_means base t, link_back base l) refl
-fact_back base (a_node n t) ok = rw (word_means base type_word ok, table_means base t) (by_type-table base t n)
+fact_back base (a_class t) ok = rw (word_means base RdfType ok, word_means base OwlClass ok, table_means base t) refl
+fact_back base (a_property c) ok = rw (word_means base RdfType ok, word_means base OwlDatatypeProperty ok, told_column-column base c) refl
+fact_back base (an_object l) ok = rw (word_means base RdfType ok, word_means base OwlObjectProperty ok, link_back base l) refl
+fact_back base (a_domain i t) ok = rw (word_means base RdfsDomain ok, table_means base t) refl
+fact_back base (a_range c k) ok = rw (word_means base RdfsRange ok, word_means base (Datatype k) ok, told_column-column base c) refl
+fact_back base (a_link_range l t) ok = rw (word_means base RdfsRange ok, table_means base t, link_back base l) refl
+fact_back base (a_node n t) ok = rw (word_means base RdfType ok, table_means base t) (by_type-table base t n)
 fact_back base (a_cell n c v) ok =
     rw (local_means base c.table (safe_form c.column), node_back n, told_column-column base c, value_comes_back v) refl
 fact_back base (a_link n l m) ok = rw (link_means base l, node_back n, by_object-node base (link_iri base l) n m, link_back base l) refl
-fact_back base (a_mark n) ok = rw (word_means base different_word ok, node_back n) refl
+fact_back base (a_mark n) ok = rw (word_means base OwlDifferentFrom ok, node_back n) refl
 
 some_fact : (f g : Fact) → Some f ≡ Some g → f ≡ g
 some_fact f g e = cc
