@@ -1,3 +1,4 @@
 pub mod Elements
+pub mod InOrder
 pub mod Membership
 pub mod Places

@@ -1,5 +1,5 @@
 -- Names of tables and columns, and the places at which names stand.
-use Rattle.std.specs.Prelude.{◌≡◌, ◌≢◌, ℕ, List, [], ◌∷◌, Bool, Option, map, nat_eq, slice_get}
+use Rattle.std.specs.Prelude.{◌≡◌, ◌≢◌, ℕ, List, [], ◌∷◌, Bool, Option, map, nat_eq, slice_get, slice_index_or}
 use Rattle.std.specs.Option.{option_map}
 use Rattle.std.specs.List.{Any, count_by, position_or_len}
 use Rattle.std.specs.Cmp.Lexicographic.{pointwise}
@@ -20,6 +20,10 @@ IsBadName (c ∷ cs) = c ≡ 65279
 
 abbrev pub column_names : List Column → List Name
 column_names columns = map (λ column. column.name) columns
+
+-- the name of the column at the place, counted from 0; empty for a place that the table doesn't have
+abbrev pub name_at : List Column → ℕ → Name
+name_at columns place = slice_index_or (column_names columns) place []
 
 -- a column of the name is declared
 abbrev pub Declares : List Column → Name → Type 0

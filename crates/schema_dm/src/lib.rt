@@ -5,6 +5,7 @@
 mod build;
 mod causes;
 mod draft;
+mod index;
 mod keys;
 mod lookup;
 mod order;
@@ -16,6 +17,7 @@ mod table;
 mod verdict;
 
 pub use draft::{Column, ForeignDraft, TableDraft};
+pub use index::Index;
 pub use refusal::{SchemaCause, SchemaError, SchemaFault};
 pub use schema::Schema;
 pub use shape::Shape;

@@ -16,7 +16,7 @@ use Rattle.std.proofs.lemmas.Str.{encodes_same}
 use Rattle.schema_dm.specs.Naming.{column_names}
 use Rattle.schema_dm.specs.declared.draft.Column.{Column}
 use Rattle.table_csv.specs.TableFiles.{IsBadHeader, IsHeader, Record, name_field, name_fields}
-use Rattle.table_csv.specs.Headers.{IsOrder, header_of, name_at}
+use Rattle.table_csv.specs.Headers.{IsOrder, header_of, field_at}
 use Rattle.table_csv.proofs.Distinct.{no_longer, no_repeats_more, one_place}
 
 -- whether a field stands in a list
@@ -52,10 +52,10 @@ misses columns fields distinct short = elim (misses_or_not columns fields) [
   | inr each ↦ absurd (let h = no_longer (name_fields columns) fields distinct each in let size : length (name_fields columns) ≡ length columns = length-map columns name_field in omega arith)
 ]
 
-pub name_in : (columns : List Column) (place : ℕ) → place < length columns → IsIn (name_at columns place) (name_fields columns)
+pub name_in : (columns : List Column) (place : ℕ) → place < length columns → IsIn (field_at columns place) (name_fields columns)
 name_in columns place lt = item_within (name_fields columns) place [] (let size : length (name_fields columns) ≡ length columns = length-map columns name_field in omega arith)
 
-pub one_column : (columns : List Column) (i j : ℕ) → NoRepeats (name_fields columns) → i < length columns → j < length columns → name_at columns i ≡ name_at columns j → i ≡ j
+pub one_column : (columns : List Column) (i j : ℕ) → NoRepeats (name_fields columns) → i < length columns → j < length columns → field_at columns i ≡ field_at columns j → i ≡ j
 one_column columns i j distinct li lj e =
     let size : length (name_fields columns) ≡ length columns = length-map columns name_field in
     one_place (name_fields columns) i j [] distinct (omega arith) (omega arith) e
@@ -70,9 +70,9 @@ pub names_none : (columns : List Column) (fields : Record) → NamesSoFar column
 names_none columns fields = record { names = refl; within = λ place m. absurd m; once = tt }
 
 pub names_more : (columns : List Column) (fields : Record) (at place : ℕ) (order : List ℕ) (field : List ℕ) → NamesSoFar columns fields at order → take (suc at) fields ≡ take at fields ++ field ∷ []
-    → place < length columns → name_at columns place ≡ field → ¬ IsIn place order → NamesSoFar columns fields (at + 1) (order ++ place ∷ [])
+    → place < length columns → field_at columns place ≡ field → ¬ IsIn place order → NamesSoFar columns fields (at + 1) (order ++ place ∷ [])
 names_more columns fields at place order field h next lt name other = record {
-  names = rw (add-one, next, h.names, map-append (name_at columns) order (place ∷ []), ← name) refl;
+  names = rw (add-one, next, h.names, map-append (field_at columns) order (place ∷ []), ← name) refl;
   within = λ p m. elim (IsIn-append p order (place ∷ []) m) [
     | inl there ↦ h.within p there
     | inr (inl same) ↦ omega (arith, same)
@@ -84,13 +84,13 @@ names_more columns fields at place order field h next lt name other = record {
 -- these fields are names of columns, and none stands twice
 are_names : (columns : List Column) (order : List ℕ) → ((place : ℕ) → IsIn place order → place < length columns) → (field : List ℕ) → IsIn field (header_of columns order) → IsIn field (name_fields columns)
 are_names columns order within field m =
-    let (place, there, e) = IsIn-map (name_at columns) field order m in
+    let (place, there, e) = IsIn-map (field_at columns) field order m in
     let P : List ℕ → Type 0 = λ z. IsIn z (name_fields columns) in
     subst P e (name_in columns place (within place there))
 
 names_once : (columns : List Column) (order : List ℕ) → NoRepeats (name_fields columns) → ((place : ℕ) → IsIn place order → place < length columns) → NoRepeats order → NoRepeats (header_of columns order)
 names_once columns order distinct within once =
-    NoRepeats-map (name_at columns) order (λ i j mi mj e. one_column columns i j distinct (within i mi) (within j mj) e) once
+    NoRepeats-map (field_at columns) order (λ i j mi mj e. one_column columns i j distinct (within i mi) (within j mj) e) once
 
 front_names : (columns : List Column) (fields : Record) (at : ℕ) (order : List ℕ) → NamesSoFar columns fields at order → (field : List ℕ) → IsIn field (take at fields) → IsIn field (name_fields columns)
 front_names columns fields at order h field m = are_names columns order h.within field (rw h.names at m)
@@ -99,7 +99,7 @@ front_once : (columns : List Column) (fields : Record) (at : ℕ) (order : List 
 front_once columns fields at order distinct h = rw h.names (names_once columns order distinct h.within h.once)
 
 front_length : (columns : List Column) (fields : Record) (at : ℕ) (order : List ℕ) → NamesSoFar columns fields at order → length (take at fields) ≡ length order
-front_length columns fields at order h = ap length h.names ∙ length-map order (name_at columns)
+front_length columns fields at order h = ap length h.names ∙ length-map order (field_at columns)
 
 -- the field at the place is at fault
 pub bad_field : (columns : List Column) (fields : Record) (at : ℕ) (order : List ℕ) (field : List ℕ) → NoRepeats (name_fields columns) → NamesSoFar columns fields at order
@@ -115,10 +115,10 @@ bad_field columns fields at order field distinct h parts bad = record {
 }
 
 -- a place that is in the order already is that of an earlier field
-pub repeated_field : (columns : List Column) (fields : Record) (at place : ℕ) (order : List ℕ) (field : List ℕ) → NamesSoFar columns fields at order → IsIn place order → name_at columns place ≡ field
+pub repeated_field : (columns : List Column) (fields : Record) (at place : ℕ) (order : List ℕ) (field : List ℕ) → NamesSoFar columns fields at order → IsIn place order → field_at columns place ≡ field
     → IsIn field (take at fields)
 repeated_field columns fields at place order field h there name =
-    rw h.names (let P : List ℕ → Type 0 = λ z. IsIn z (header_of columns order) in subst P name (map-IsIn (name_at columns) place order there))
+    rw h.names (let P : List ℕ → Type 0 = λ z. IsIn z (header_of columns order) in subst P name (map-IsIn (field_at columns) place order there))
 
 pub missing_field : (columns : List Column) (fields : Record) (at : ℕ) (order : List ℕ) → NoRepeats (name_fields columns) → NamesSoFar columns fields at order → take at fields ≡ fields
     → length order < length columns → IsBadHeader columns fields (length order + 1)
@@ -140,7 +140,7 @@ order_whole columns fields at order distinct h whole long =
     let header : fields ≡ header_of columns order = sym whole ∙ h.names in
     let count : length (header_of columns order) ≤ length (name_fields columns) = no_longer (header_of columns order) (name_fields columns) (names_once columns order distinct h.within h.once) (are_names columns order h.within) in
     let size : length (name_fields columns) ≡ length columns = length-map columns name_field in
-    let sizes : length (header_of columns order) ≡ length order = length-map order (name_at columns) in
+    let sizes : length (header_of columns order) ≡ length order = length-map order (field_at columns) in
     (record { within = h.within; once = h.once; each = omega arith; distinct = distinct }, header)
 
 -- the header of an order is a good one
@@ -149,7 +149,7 @@ order_header columns order h =
     let once = names_once columns order h.distinct h.within h.once in
     let each = are_names columns order h.within in
     let size : length (name_fields columns) ≡ length columns = length-map columns name_field in
-    let sizes : length (header_of columns order) ≡ length order = length-map order (name_at columns) in
+    let sizes : length (header_of columns order) ≡ length order = length-map order (field_at columns) in
     let count = h.each in
     record {
       once = once;
@@ -175,7 +175,7 @@ no_name columns i field long none =
     let P : List Column → Type 0 = λ cs. ¬ IsIn field (name_fields cs) in
     subst P whole none
 
-pub name_read : (columns : List Column) (i : ℕ) (column : Column) → i < length columns → column ≡ get_or columns i column → name_at columns i ≡ name_field column
+pub name_read : (columns : List Column) (i : ℕ) (column : Column) → i < length columns → column ≡ get_or columns i column → field_at columns i ≡ name_field column
 name_read columns i column lt is = get_or-map name_field columns i column [] lt ∙ ap name_field (sym is)
 
 -- whether a place is in the order

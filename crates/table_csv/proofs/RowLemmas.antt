@@ -9,7 +9,7 @@ use Rattle.schema_dm.specs.declared.draft.Column.{Column}
 use Rattle.value_dm.specs.declared.mode.NullMode.{NullMode}
 use Rattle.table_csv.specs.Cells.{Cell, Row}
 use Rattle.table_csv.specs.TableFiles.{HasFieldFault, IsFieldFault, IsFieldOf, IsGoodField, IsRecordFault, Record, SpellsCell, SpellsRow, name_field}
-use Rattle.table_csv.specs.Headers.{IsOrder, header_of, name_at}
+use Rattle.table_csv.specs.Headers.{IsOrder, header_of, field_at}
 use Rattle.table_csv.specs.Reading.{IsRowFault, OrMemory}
 use Rattle.table_csv.specs.declared.fault.TableError.{TableError}
 use Rattle.table_csv.specs.declared.fault.TableError.TheVariants as fault
@@ -83,7 +83,7 @@ cells_more columns mode fields order i place cells column field cell o lt at is 
 named_at : (columns : List Column) (order : List ℕ) (k : ℕ) (column : Column) → k < length order → slice_get columns (get_or order k 0) ≡ Some column
     → slice_get (header_of columns order) k ≡ Some (name_field column)
 named_at columns order k column lt e =
-    slice_get-map (name_at columns) order k ∙ (ap (option_map (name_at columns)) (slice_get-get_or order k 0 lt)
+    slice_get-map (field_at columns) order k ∙ (ap (option_map (field_at columns)) (slice_get-get_or order k 0 lt)
     ∙ ap (λ (n : List ℕ). Some n) (get_or-map name_field columns (get_or order k 0) column [] (slice_get_within columns (get_or order k 0) column e) ∙ ap name_field (get_or_from_slice_get columns (get_or order k 0) column column e)))
 
 -- the field at the place is that of the column there
@@ -128,15 +128,15 @@ row_read columns mode fields order i cells o width all h = record {
   fields_fit = width;
   cells_fit = h.size;
   each = λ at place column field cell named declared here there.
-      let size : length (header_of columns order) ≡ length order = length-map order (name_at columns) in
+      let size : length (header_of columns order) ≡ length order = length-map order (field_at columns) in
       let below : at < length order = let b = slice_get_within (header_of columns order) at (name_field column) named in omega arith in
       let was = h.each at (omega arith) in
       let own = named_at columns order at was.column below was.column_is in
       let name : name_field was.column ≡ name_field column = cc (own, named) in
       let inside = order_place columns order o at below in
       let placed = slice_get_within columns place column declared in
-      let own_name : name_at columns (get_or order at 0) ≡ name_field was.column = get_or-map name_field columns (get_or order at 0) was.column [] inside ∙ ap name_field (get_or_from_slice_get columns (get_or order at 0) was.column was.column was.column_is) in
-      let that_name : name_at columns place ≡ name_field column = get_or-map name_field columns place column [] placed ∙ ap name_field (get_or_from_slice_get columns place column column declared) in
+      let own_name : field_at columns (get_or order at 0) ≡ name_field was.column = get_or-map name_field columns (get_or order at 0) was.column [] inside ∙ ap name_field (get_or_from_slice_get columns (get_or order at 0) was.column was.column was.column_is) in
+      let that_name : field_at columns place ≡ name_field column = get_or-map name_field columns place column [] placed ∙ ap name_field (get_or_from_slice_get columns place column column declared) in
       let same : get_or order at 0 ≡ place = one_column columns (get_or order at 0) place o.distinct inside placed (own_name ∙ (name ∙ sym that_name)) in
       let column_same : was.column ≡ column = cc (rw same at was.column_is, declared) in
       let cell_same : was.cell ≡ cell = cc (rw same at was.cell_is, there) in

@@ -1,5 +1,5 @@
--- Which cells and rows a table may have.
-use Rattle.std.specs.Prelude.{◌≡◌, ◌≤◌, false, List, length, All}
+-- Rows by their cells, and which cells and rows a table may have.
+use Rattle.std.specs.Prelude.{◌≡◌, ◌≤◌, false, ℕ, List, length, map, slice_index_or, All}
 use Rattle.std.specs.declared.option.Option.{Option}
 use Rattle.std.specs.declared.option.Option.TheVariants.{None, Some}
 use Rattle.std.specs.List.{AllZip}
@@ -15,6 +15,10 @@ Cell = Option Value
 -- the cells of a row in the columns' order
 abbrev pub Row : Type 0
 Row = List Cell
+
+-- the row's cells in the columns at the places, counted from 0, in this order; NULL for a place that the row doesn't have
+abbrev pub cells_at : List ℕ → Row → Row
+cells_at places row = map (λ place. slice_index_or row place None) places
 
 -- a column holds values of its kind, and the null value unless NOT NULL stands at it (ISO/IEC 9075-2, 4.13)
 abbrev pub IsCellOf : Column → Cell → Type 0

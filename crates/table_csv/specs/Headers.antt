@@ -6,13 +6,13 @@ use Rattle.table_csv.specs.TableFiles.{IsBadHeader, Record, name_fields}
 use Rattle.table_csv.specs.declared.fault.TableError.{TableError}
 use Rattle.table_csv.specs.declared.fault.TableError.TheVariants as fault
 
--- the name of the column at the place
-abbrev pub name_at : List Column → ℕ → List ℕ
-name_at columns place = slice_index_or (name_fields columns) place []
+-- the field that names the column at the place
+abbrev pub field_at : List Column → ℕ → List ℕ
+field_at columns place = slice_index_or (name_fields columns) place []
 
 -- the header that names the columns at these places
 abbrev pub header_of : List Column → List ℕ → Record
-header_of columns order = map (name_at columns) order
+header_of columns order = map (field_at columns) order
 
 -- each column's place stands once in the order, and no two columns have one name
 pub record IsOrder (columns : List Column) (order : List ℕ) : Type 0 where

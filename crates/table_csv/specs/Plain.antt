@@ -1,7 +1,7 @@
 -- What the tables of a database hold without keys and NOT NULL: tables and columns stand in the order of their names, and
 -- the rows of a table are a multiset (ISO/IEC 9075-2, 4.14). Tables and columns are counted from 0 here.
-use Rattle.std.specs.Prelude.{◌≡◌, false, ℕ, List, length, map, slice_get, slice_index_or, IsPermutation}
-use Rattle.std.specs.declared.option.Option.TheVariants.{None, Some}
+use Rattle.std.specs.Prelude.{◌≡◌, false, ℕ, List, length, map, slice_get, IsPermutation}
+use Rattle.std.specs.declared.option.Option.TheVariants.{Some}
 use Rattle.std.specs.List.{AllZip}
 use Rattle.members_dm.specs.Membership.{IsRising, NoRepeats}
 use Rattle.schema_dm.specs.Naming.{column_names}
@@ -9,7 +9,7 @@ use Rattle.schema_dm.specs.Shapes.{IsBefore}
 use Rattle.schema_dm.specs.declared.draft.Column.{Column}
 use Rattle.schema_dm.specs.declared.table.ShapeTable.{ShapeTable}
 use Rattle.schema_dm.specs.declared.table.Table.{Table}
-use Rattle.table_csv.specs.Cells.{Row}
+use Rattle.table_csv.specs.Cells.{Row, cells_at}
 use Rattle.table_csv.specs.Databases.{Data, rows_at}
 
 -- a table of a shape, and its rows
@@ -28,9 +28,6 @@ plain_column column = record { name = column.name; kind = column.kind; not_null 
 
 abbrev pub IsColumnAt : Table → ℕ → Column → Type 0
 IsColumnAt table place column = slice_get (map plain_column table.columns) place ≡ Some column
-
-abbrev pub cells_at : List ℕ → Row → Row
-cells_at places row = map (λ place. slice_index_or row place None) places
 
 -- the columns in the order of their names, and the rows in some order, each with its cells in the order of the columns
 pub record IsPlainTable (table : Table) (rows : List Row) (plain : PlainTable) : Type 0 where
