@@ -18,6 +18,7 @@ use Rattle.table_csv.proofs.OneFile.{under}
 use Rattle.table_csv.proofs.Zips.{zipped_at, zipped_length}
 
 spelled_lawful : (text : List ℕ) (v : Value) → SpellsValue text v → IsLawful v
+spelled_lawful text (value.Text t) h = h.1
 spelled_lawful text (value.Integer z) h = h.fits
 spelled_lawful text (value.Binary b) (inl whole) = (decode_of-ok text b whole).3
 spelled_lawful text (value.Binary b) (inr (digits, parts, marked)) = (decode_of-ok digits b marked).3

@@ -4,6 +4,7 @@ ghost use Rattle.std.specs.List.{AllZip};
 ghost use Rattle.hex.specs.Hex.{IsBytes};
 ghost use Rattle.value_dm.specs.Kinds.{kind_of};
 ghost use Rattle.value_dm.specs.Lawful.{IsLawful};
+ghost use Rattle.value_dm.specs.Texts.{IsText};
 ghost use Rattle.table_csv.specs.Cells.{AreRowsOf, IsCellOf, IsRowOf};
 ghost use Rattle.table_csv.specs.Databases.{IsDatabase, rows_at};
 
@@ -133,10 +134,19 @@ fn is_value_of(kind: Kind, value: &Value) -> bool
     ensures lawful { IsLawful value.now }
 {
     match value {
+        Value::Text(text) => is_text(kind, text),
         Value::Integer(number) => is_integer(kind, *number),
         Value::Binary(bytes) => is_binary(kind, bytes.as_slice()),
         _ => same(&value.kind(), &kind),
     }
+}
+
+fn is_text(kind: Kind, text: &Text) -> bool
+    ensures kind { IsTrue result ↔ (Kind.Text ≡ kind) }
+    ensures lawful { IsText text.now }
+{
+    let _characters = text.as_str();
+    same(&Kind::Text, &kind)
 }
 
 fn is_integer(kind: Kind, number: i64) -> bool

@@ -135,7 +135,7 @@ text_field (c ∷ cs) = by_first (eqb 92 c) refl
         subst P (sym (unslashed c cs e)) (unslashed_not_null c cs e, two_slashed c cs e)
 
 pub field_spells : (v : Value) → IsLawful v → Spells (kind_of v) (canonical_field (Some v)) mode.Plain (Some v)
-field_spells (value.Text t) h = let own = text_field t in (own.0, refl, own.1)
+field_spells (value.Text t) h = let own = text_field t in (own.0, refl, (own.1, h))
 field_spells (value.Integer z) h = let own = spells_plainly (value.Integer z) (λ k. cc k) (λ k. cc k) h in (own.0, refl, own.1)
 field_spells (value.Decimal d) h = let own = spells_plainly (value.Decimal d) (λ k. cc k) (λ k. cc k) h in (own.0, refl, own.1)
 field_spells (value.Boolean b) h = let own = spells_plainly (value.Boolean b) (λ k. cc k) (λ k. cc k) h in (own.0, refl, own.1)

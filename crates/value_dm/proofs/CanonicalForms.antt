@@ -164,7 +164,7 @@ time_form : (t : Time) → SpellsTime (lexical_form (value.Time t)) t
 time_form t = record { rest = short_fraction_text 9 t.nanosecond; text = refl; fraction = time_fraction t.nanosecond t.exists.3 }
 
 pub lexical_form_spells : (v : Value) → IsLawful v → SpellsValue (lexical_form v) v
-lexical_form_spells (value.Text t) h = refl
+lexical_form_spells (value.Text t) h = (refl, h)
 lexical_form_spells (value.Integer z) h = integer_form z h
 lexical_form_spells (value.Decimal d) h = decimal_form d
 lexical_form_spells (value.Boolean b) h = boolean_form b

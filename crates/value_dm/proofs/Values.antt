@@ -53,7 +53,7 @@ boolean_one text true false g h = absurd (words_apart text g h)
 boolean_one text false true g h = absurd (words_apart text h g)
 
 pub value_one : (text : List ℕ) (v w : Value) → kind_of v ≡ kind_of w → SpellsValue text v → SpellsValue text w → v ≡ w
-value_one text (value.Text s) (value.Text t) e g h = ap value.Text (sym g ∙ h)
+value_one text (value.Text s) (value.Text t) e g h = ap value.Text (sym g.0 ∙ h.0)
 value_one text (value.Integer y) (value.Integer z) e g h = ap value.Integer (integer_one text y z g h)
 value_one text (value.Decimal a) (value.Decimal b) e g h = ap value.Decimal (decimal_one text a b g h)
 value_one text (value.Boolean a) (value.Boolean b) e g h = ap value.Boolean (boolean_one text a b g h)
@@ -81,3 +81,7 @@ spells_one k field m None None g h = refl
 spells_one k field m None (Some v) g h = absurd (h.0 g)
 spells_one k field m (Some v) None g h = absurd (g.0 h)
 spells_one k field m (Some v) (Some w) g h = ap Some (value_one (unescaped k field) v w (g.1 ∙ sym h.1) g.2 h.2)
+
+-- a text is the form of one value of a kind
+pub form_of_one : (k : Kind) (text : List ℕ) (v w : Value) → IsLawful v → IsLawful w → kind_of v ≡ k → kind_of w ≡ k → lexical_form v ≡ text → lexical_form w ≡ text → v ≡ w
+form_of_one k text v w p q kind_v kind_w form_v form_w = lexical_form_one v w p q (kind_v ∙ sym kind_w) (form_v ∙ sym form_w)

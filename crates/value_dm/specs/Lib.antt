@@ -9,5 +9,6 @@ pub mod Order
 pub mod Reading
 pub mod Sameness
 pub mod Spelling
+pub mod Texts
 pub mod ValueEquality
 pub mod Written

@@ -8,6 +8,7 @@ use Rattle.std.specs.Str.Parse.{IsNumeral, digits_value}
 use Rattle.hex.specs.Hex.{decode_of}
 use Rattle.value_dm.specs.Kinds.{kind_of}
 use Rattle.value_dm.specs.Lexical.{date_text, clock_text}
+use Rattle.value_dm.specs.Texts.{IsText}
 use Rattle.value_dm.specs.declared.calendar.Time.{Time}
 use Rattle.value_dm.specs.declared.calendar.DateTime.{DateTime}
 use Rattle.value_dm.specs.declared.decimal.Decimal.{Decimal}
@@ -106,7 +107,7 @@ SpellsBinary field bytes =
 
 -- the text stands for the value, where nothing is NULL and no backslash is doubled
 abbrev pub SpellsValue : List ℕ → Value → Type 0
-SpellsValue field (value.Text t) = field ≡ t
+SpellsValue field (value.Text t) = (field ≡ t) × IsText t
 SpellsValue field (value.Integer z) = SpellsInteger field z
 SpellsValue field (value.Decimal d) = SpellsDecimal field d
 SpellsValue field (value.Boolean b) = SpellsBoolean field b

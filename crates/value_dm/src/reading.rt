@@ -10,7 +10,7 @@ use crate::kind::Kind;
 use crate::value::Value;
 use std::alloc::Global;
 
-/// The value of the kind whose canonical lexical form is the text.
+/// The value of the kind whose canonical lexical form is the text. A text is the form of one value of a kind at most.
 ///
 /// - `NotCanonical` exactly where no value of the kind has this form.
 /// - `Memory` for want of memory.
@@ -18,6 +18,8 @@ pub fn read_lexical(alloc: Global, kind: Kind, text: &str) -> Result<Value, Lexi
     ensures ok { IfOk result (λ v. (kind_of v ≡ kind) × (lexical_form v ≡ chars text.now) × IsLawful v) }
     ensures bad { result ≡ Err LexicalError.NotCanonical →
         (v : AnyValue) → IsLawful v → kind_of v ≡ kind → lexical_form v ≢ chars text.now }
+    ensures one { (first second : AnyValue) → IsLawful first → IsLawful second → kind_of first ≡ kind → kind_of second ≡ kind →
+        lexical_form first ≡ chars text.now → lexical_form second ≡ chars text.now → first ≡ second }
 {
     let value = match read_value(alloc, kind, text) {
         Ok(value) => value,

@@ -1,4 +1,5 @@
 ghost use Rattle.std.specs.Prelude.{◌≡◌, IfOk, chars, encode_utf8_all, string_bytes};
+ghost use Rattle.value_dm.specs.Texts.{IsText};
 
 use crate::copies::TryCopy;
 use std::alloc::{AllocError, Global};
@@ -38,10 +39,11 @@ impl Text {
         Text { string }
     }
 
-    /// The characters.
+    /// The characters, which are Unicode scalar values.
     pub fn as_str(&self) -> &str
         ensures bytes { result.now ≡ encode_utf8_all self.now }
         ensures chars { chars result.now ≡ self.now }
+        ensures scalars { IsText self.now }
     {
         self.string.as_str()
     }
