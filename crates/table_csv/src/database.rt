@@ -12,7 +12,7 @@ use crate::{Rows, RowsList};
 use schema_dm::{Column, Schema, Table};
 use std::alloc::{AllocError, Global};
 use std::marker::Model;
-use value_dm::{Cell, Kind, TryCopy, Value, same};
+use value_dm::{Cell, Kind, Text, TryCopy, Value, same};
 
 /// The most rows that a table has.
 pub const MOST_ROWS: usize = 4_194_304;
