@@ -1,6 +1,8 @@
 -- `Any` and `All` of std, which speak of indexes, by items.
-use Rattle.std.proofs.Common.{◌≡◌, ◌⊎◌, ℕ, zero, suc, ◌<◌, List, [], ◌∷◌, map, length, get_or, Some, refl, sym, subst, inl, inr, arith, All, Any}
+use Rattle.std.proofs.Common.{◌≡◌, ◌⊎◌, ◌∙◌, ℕ, zero, suc, ◌+◌, ◌<◌, ◌≤◌, List, [], ◌∷◌, ◌++◌, map, length, take, get_or, Some, refl, sym, ap, subst, inl, inr, arith, All, Any}
 use Rattle.std.specs.Prelude.{slice_get}
+use Rattle.std.proofs.lemmas.List.{take_all, take_more}
+use Rattle.std.proofs.lemmas.List.Elements.{All-push}
 use Rattle.members_dm.specs.Membership.{IsIn}
 use Rattle.members_dm.specs.Elements.{HasSome}
 use Rattle.members_dm.proofs.ElementsLemmas.{index_of_item, item_within}
@@ -62,3 +64,15 @@ item_from_all P xs all x h =
 
 pub all_from_items : {X : Type 0} (P : X → Type 0) (xs : List X) → ((x : X) → IsIn x xs → P x) → All P xs
 all_from_items P xs each k d below = each (get_or xs k d) (item_within xs k d below)
+
+-- ---- a loop that looks for an item
+
+pub none_so_far : {X : Type 0} (P : X → Type 0) (xs : List X) (i : ℕ) (x : X) → i < length xs → x ≡ get_or xs i x → ¬ P x → All (λ y. ¬ P y) (take i xs) → All (λ y. ¬ P y) (take (i + 1) xs)
+none_so_far P xs i x below is fails before =
+    subst (All (λ y. ¬ P y)) (ap (λ y. take i xs ++ y ∷ []) is ∙ sym (take_more xs i x below)) (All-push (λ y. ¬ P y) (take i xs) x before fails)
+
+pub none_at_all : {X : Type 0} (P : X → Type 0) (xs : List X) (n : ℕ) → length xs ≤ n → All (λ y. ¬ P y) (take n xs) → ¬ Any P xs
+none_at_all P xs n past none (k, x, below, is, holds) = subst (All (λ y. ¬ P y)) (take_all n xs past) none k x below (subst P (sym is) holds)
+
+pub some_at_last : {X : Type 0} (P : X → Type 0) (xs : List X) (i : ℕ) (x : X) → i < length xs → x ≡ get_or xs i x → P x → Any P xs
+some_at_last P xs i x below is holds = (i, x, below, sym is, holds)

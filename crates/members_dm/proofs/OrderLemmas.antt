@@ -1,5 +1,5 @@
 -- Items that are found by halving the positions of a list in the order of its items, and items that stand twice.
-use Rattle.std.proofs.Common.{◌≡◌, ◌≢◌, ℕ, ◌≤◌, ◌<◌, ◌+◌, ◌-◌, zero, suc, List, [], ◌∷◌, length, get_or, Option, None, Some, Bool, true, false, not, refl, sym, ap, ◌∙◌, subst, arith, ⊎_elim, inl, inr, ◌⊎◌, ◌↔◌, Ordering, Less, Equal, Greater, is_lt, nat_cmp, IsPermutation, IsSortedBy}
+use Rattle.std.proofs.Common.{◌≡◌, ◌≢◌, ℕ, ◌≤◌, ◌<◌, ◌+◌, ◌-◌, zero, suc, List, [], ◌∷◌, length, get_or, Option, None, Some, Bool, true, false, refl, sym, ap, ◌∙◌, arith, ⊎_elim, inl, inr, ◌⊎◌, Ordering, Less, Equal, Greater, is_lt, nat_cmp, IsSortedBy}
 use Rattle.std.specs.Prelude.{slice_get}
 use Rattle.std.specs.Cmp.{IsTotalOrder, IsStrictWeakOrder}
 use Rattle.std.specs.Cmp.Lexicographic.{options_total}
@@ -12,9 +12,8 @@ use Rattle.std.proofs.lemmas.Cmp.{nat_cmp_total, on_total, then_total, tied_itse
 use Rattle.std.proofs.lemmas.List.{get_or_default}
 use Rattle.std.proofs.lemmas.Option.{slice_get_within}
 use Rattle.std.proofs.lemmas.List.Sorted.{ranks_by, sorted_far}
-use Rattle.members_dm.specs.Membership.{IsIn}
 use Rattle.members_dm.specs.Elements.{Repeats}
-use Rattle.members_dm.specs.InOrder.{positions_below, position_cmp, AreRisingBy, AreInOrder, IsFirstPlace, AreSameAt}
+use Rattle.members_dm.specs.InOrder.{position_cmp, AreRisingBy, AreInOrder, IsFirstPlace, AreSameAt}
 use Rattle.members_dm.proofs.ElementsLemmas.{index_of_item, item_at_index}
 use Rattle.members_dm.proofs.PositionLists.{place_of_item, positions_cover, positions_apart}
 
@@ -39,7 +38,7 @@ not_lt_first Less b e = e
 not_lt_first Equal b e = refl
 not_lt_first Greater b e = refl
 
-not_lt_both : (a : Ordering) → is_lt a ≡ false → is_lt (ordering_reverse a) ≡ false → a ≡ Equal
+pub not_lt_both : (a : Ordering) → is_lt a ≡ false → is_lt (ordering_reverse a) ≡ false → a ≡ Equal
 not_lt_both Less e f = cc e
 not_lt_both Equal e f = refl
 not_lt_both Greater e f = cc f
@@ -89,47 +88,47 @@ module _ {K : Type 0} {order : K → K → Ordering} (total : IsTotalOrder order
   stands p l = place_of_item p positions (positions_cover (length xs) positions sorted.permuted p l)
 
   module _ (x : K) (s : ℕ) (start : IsPartitionPoint (λ p. is_lt (option_cmp order (slice_get xs p) (Some x)) ≡ true) (λ p. is_lt (option_cmp order (slice_get xs p) (Some x)) ≡ false) positions s)
-      where
-    -- a position of the item stands behind the point
-    behind : (p : ℕ) → slice_get xs p ≡ Some x → (k : ℕ) × (k < length positions) × (get_or positions k p ≡ p) × (s ≤ k)
-    behind p is =
-        let (k, below, here) = stands p (slice_get_within xs p x is) in
-        let tie : option_cmp order (slice_get xs (get_or positions k p)) (Some x) ≡ Equal = ap (λ q. option_cmp order (slice_get xs q) (Some x)) here ∙ ap (λ a. option_cmp order a (Some x)) is
-            ∙ tied_itself stand_total (Some x) in (
-          k,
-          below,
-          here,
-          ⊎_elim (λ l. absurd (both_ways _ (ap is_lt tie) (start.0 k p (omega arith) l))) (λ l. l) (cases_lt k s),
-        )
+    where
+      -- a position of the item stands behind the point
+      behind : (p : ℕ) → slice_get xs p ≡ Some x → (k : ℕ) × (k < length positions) × (get_or positions k p ≡ p) × (s ≤ k)
+      behind p is =
+          let (k, below, here) = stands p (slice_get_within xs p x is) in
+          let tie : option_cmp order (slice_get xs (get_or positions k p)) (Some x) ≡ Equal = ap (λ q. option_cmp order (slice_get xs q) (Some x)) here ∙ ap (λ a. option_cmp order a (Some x)) is
+          ∙ tied_itself stand_total (Some x) in (
+            k,
+            below,
+            here,
+            ⊎_elim (λ l. absurd (both_ways _ (ap is_lt tie) (start.0 k p (omega arith) l))) (λ l. l) (cases_lt k s),
+          )
 
-    pub first_here : (p : ℕ) → s < length positions → get_or positions s p ≡ p → slice_get xs p ≡ Some x → IsFirstPlace xs x (Some p)
-    first_here p below here is = (
-      is,
-      (λ q l same.
+      pub first_here : (p : ℕ) → s < length positions → get_or positions s p ≡ p → slice_get xs p ≡ Some x → IsFirstPlace xs x (Some p)
+      first_here p below here is = (
+        is,
+        (λ q l same.
+            let (k, within, there, low) = behind q same in
+            let rise : is_lt (position_cmp order xs q p) ≡ false =
+            ap (λ (a : ℕ). is_lt (position_cmp order xs a p)) (sym there) ∙ ap (λ (a : ℕ). is_lt (position_cmp order xs (get_or positions k q) a)) (sym (here_at q))
+            ∙ sorted.rising s k q low within in
+            let tie : option_cmp order (slice_get xs q) (slice_get xs p) ≡ Equal = ap (λ a. option_cmp order a (slice_get xs p)) same ∙ ap (λ a. option_cmp order (Some x) a) is ∙ tied_itself stand_total (Some x) in
+            let apart : is_lt (nat_cmp q p) ≡ false = sym (ap (λ r. is_lt (ordering_then r (nat_cmp q p))) tie) ∙ rise in
+            let high : p ≤ q = not_less p q apart in
+            omega arith),
+      )
+        where
+          here_at : (d : ℕ) → get_or positions s d ≡ p
+          here_at d = get_or_default positions s d p below ∙ here
+
+      pub none_behind : length positions ≤ s → IsFirstPlace xs x None
+      none_behind past = λ p is. let (k, below, here, low) = behind p is in omega arith
+
+      pub none_here : (p : ℕ) → s < length positions → ((d : ℕ) → get_or positions s d ≡ p) → ¬ (slice_get xs p ≡ Some x) → IsFirstPlace xs x None
+      none_here p below here other = λ q same.
           let (k, within, there, low) = behind q same in
-          let rise : is_lt (position_cmp order xs q p) ≡ false =
-              ap (λ (a : ℕ). is_lt (position_cmp order xs a p)) (sym there) ∙ ap (λ (a : ℕ). is_lt (position_cmp order xs (get_or positions k q) a)) (sym (here_at q))
-              ∙ sorted.rising s k q low within in
-          let tie : option_cmp order (slice_get xs q) (slice_get xs p) ≡ Equal = ap (λ a. option_cmp order a (slice_get xs p)) same ∙ ap (λ a. option_cmp order (Some x) a) is ∙ tied_itself stand_total (Some x) in
-          let apart : is_lt (nat_cmp q p) ≡ false = sym (ap (λ r. is_lt (ordering_then r (nat_cmp q p))) tie) ∙ rise in
-          let high : p ≤ q = not_less p q apart in
-          omega arith),
-    )
-      where
-        here_at : (d : ℕ) → get_or positions s d ≡ p
-        here_at d = get_or_default positions s d p below ∙ here
-
-    pub none_behind : length positions ≤ s → IsFirstPlace xs x None
-    none_behind past = λ p is. let (k, below, here, low) = behind p is in omega arith
-
-    pub none_here : (p : ℕ) → s < length positions → ((d : ℕ) → get_or positions s d ≡ p) → ¬ (slice_get xs p ≡ Some x) → IsFirstPlace xs x None
-    none_here p below here other = λ q same.
-        let (k, within, there, low) = behind q same in
-        let not_before : is_lt (option_cmp order (slice_get xs p) (Some x)) ≡ false = ap (λ (a : ℕ). is_lt (option_cmp order (slice_get xs a) (Some x))) (sym (here q)) ∙ start.1 s q (omega arith) below in
-        let not_behind : is_lt (option_cmp order (Some x) (slice_get xs p)) ≡ false =
-            ap (λ a. is_lt (option_cmp order a (slice_get xs p))) (sym same) ∙ ap (λ (a : ℕ). is_lt (option_cmp order (slice_get xs a) (slice_get xs p))) (sym there)
-            ∙ ap (λ (a : ℕ). is_lt (option_cmp order (slice_get xs (get_or positions k q)) (slice_get xs a))) (sym (here q)) ∙ items_rise s k q low within in
-        other (one_by_ties (slice_get xs p) x
+          let not_before : is_lt (option_cmp order (slice_get xs p) (Some x)) ≡ false = ap (λ (a : ℕ). is_lt (option_cmp order (slice_get xs a) (Some x))) (sym (here q)) ∙ start.1 s q (omega arith) below in
+          let not_behind : is_lt (option_cmp order (Some x) (slice_get xs p)) ≡ false =
+          ap (λ a. is_lt (option_cmp order a (slice_get xs p))) (sym same) ∙ ap (λ (a : ℕ). is_lt (option_cmp order (slice_get xs a) (slice_get xs p))) (sym there)
+          ∙ ap (λ (a : ℕ). is_lt (option_cmp order (slice_get xs (get_or positions k q)) (slice_get xs a))) (sym (here q)) ∙ items_rise s k q low within in
+          other (one_by_ties (slice_get xs p) x
           (not_lt_both _ not_before (ap is_lt (sym (stand_total.antisymm (Some x) (slice_get xs p))) ∙ not_behind)))
 
   -- ---- neighbours

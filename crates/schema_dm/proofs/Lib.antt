@@ -1,3 +1,4 @@
+pub mod FirstPlaces
 pub mod FirstTable
 pub mod KindLoops
 pub mod Lawful
@@ -10,3 +11,4 @@ pub mod RisingNames
 pub mod SameKinds
 pub mod ShapeRules
 pub mod Sides
+pub mod SortedLists

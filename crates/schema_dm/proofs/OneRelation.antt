@@ -1,6 +1,6 @@
 -- A table is a binary relation in one way.
-use Rattle.std.proofs.Common.{◌≡◌, ◌∙◌, ℕ, zero, suc, List, [], ◌∷◌, Some, map, ap}
-use Rattle.std.specs.Prelude.{slice_get}
+use Rattle.std.proofs.Common.{◌≡◌, ◌∙◌, ℕ, zero, suc, List, [], ◌∷◌, Option, None, Some, map, ap}
+use Rattle.std.specs.Prelude.{slice_get, IfNone, IfSome}
 use Rattle.members_dm.specs.Membership.{NoRepeats}
 use Rattle.members_dm.proofs.ElementsLemmas.{one_index}
 use Rattle.schema_dm.specs.declared.table.Table.{Table}
@@ -25,3 +25,8 @@ sides_unique tables place sides other apart a b =
     let left : sides.left ≡ other.left = one_side tables (table_at tables place).foreign 0 sides.left other.left apart a.left b.left in
     let right : sides.right ≡ other.right = one_side tables (table_at tables place).foreign 1 sides.right other.right apart a.right b.right in
     λ i. record { left = left i; right = right i }
+
+pub only_sides : (tables : List Table) (place : ℕ) (told : Option Binary) → IfSome told (IsBinaryRelation tables place) → IfNone told ((sides : Binary) → ¬ IsBinaryRelation tables place sides)
+    → NoRepeats (map (λ key. key.columns) (table_at tables place).foreign) → (sides : Binary) → IsBinaryRelation tables place sides → told ≡ Some sides
+only_sides tables place None found none apart sides relation = absurd (none sides relation)
+only_sides tables place (Some other) found none apart sides relation = ap (λ s. Some s) (sides_unique tables place other sides apart found relation)

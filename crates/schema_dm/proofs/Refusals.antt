@@ -1,12 +1,16 @@
 -- Drafts are lawful or refused for one error, and not both.
-use Rattle.std.proofs.Common.{◌≡◌, ◌∙◌, ℕ, ◌+◌, ◌<◌, ◌≤◌, List, [], ◌∷◌, length, get_or, Some, refl, sym, ap, subst, inl, inr, arith}
-use Rattle.std.specs.Prelude.{slice_get}
+use Rattle.std.proofs.Common.{◌≡◌, ◌⊎◌, ◌∙◌, ℕ, ◌+◌, ◌<◌, ◌≤◌, List, [], ◌∷◌, length, get_or, Some, refl, sym, ap, subst, inl, inr, arith}
+use Rattle.std.specs.Prelude.{slice_get, IfErr, IfOk, MatchResult, OnOk, Result, Ok, Err}
 use Rattle.std.proofs.lemmas.Bool.{cases_order}
 use Rattle.schema_dm.specs.declared.draft.TableDraft.{TableDraft}
 use Rattle.schema_dm.specs.declared.refusal.SchemaCause.{SchemaCause}
 use Rattle.schema_dm.specs.declared.refusal.SchemaCause.TheVariants.{NoTable, TooManyTables, BadName, NoColumn, TooManyColumns, DuplicateTable, DuplicateColumn, UnknownColumn, UnknownTable, TwoPrimaryKeys, NotAKey, KindMismatch, SameColumnsTwice, NameClash}
 use Rattle.schema_dm.specs.declared.refusal.SchemaError.{SchemaError}
-use Rattle.schema_dm.specs.Drafts.{Holds, rank, IsFirst, IsRefusedFor, without_tables, with_too_many_tables, at_table, AreLawful}
+use Rattle.schema_dm.specs.declared.refusal.SchemaFault.{SchemaFault}
+use Rattle.schema_dm.specs.declared.refusal.SchemaFault.TheVariants.{Bad, Memory}
+use Rattle.schema_dm.specs.declared.table.Table.{Table}
+use Rattle.schema_dm.specs.Schemas.{IsRefusedWith, schema_of}
+use Rattle.schema_dm.specs.Drafts.{Holds, rank, IsFirst, IsSound, IsRefusedFor, without_tables, with_too_many_tables, at_table, AreLawful}
 
 abbrev cause_of_rank : ℕ → SchemaCause
 cause_of_rank n =
@@ -30,6 +34,12 @@ cause_of_rank-rank NameClash = refl
 
 rank_injective : (cause other : SchemaCause) → rank cause ≡ rank other → cause ≡ other
 rank_injective cause other e = sym (cause_of_rank-rank cause) ∙ ap cause_of_rank e ∙ cause_of_rank-rank other
+
+pub lawful_by_parts : (counted drafts looked_at : List TableDraft) → counted ≡ drafts → looked_at ≡ drafts → 0 < length counted → length counted ≤ 4096
+    → ((place : ℕ) (draft : TableDraft) → slice_get looked_at place ≡ Some draft → IsSound looked_at place draft) → AreLawful looked_at
+lawful_by_parts counted drafts looked_at same one some few sound =
+    let here : counted ≡ looked_at = same ∙ sym one in
+    record { some = subst (λ ds. 0 < length ds) here some; few = subst (λ ds. length ds ≤ 4096) here few; sound = sound }
 
 pub lawful_not_refused : (drafts : List TableDraft) (error : SchemaError) → AreLawful drafts → ¬ IsRefusedFor drafts error
 lawful_not_refused drafts error lawful (without_tables none cause table) =
@@ -80,3 +90,17 @@ refusal_unique drafts error other (at_table place draft some few t first) (with_
 refusal_unique drafts error other (at_table place draft some few t first) (at_table j second some' few' t' first') =
     let one = first_unique drafts error.cause other.cause place j draft second first first' in
     same_error error other one.1 (t ∙ ap (λ k. k + 1) one.0 ∙ sym t')
+
+-- ---- the one answer
+
+pub lawful_answer : (drafts : List TableDraft) (answer : Result (List Table) SchemaFault) → IfOk answer (λ tables. tables ≡ schema_of drafts) → IfErr answer (IsRefusedWith drafts) → AreLawful drafts
+    → MatchResult answer (λ tables. tables ≡ schema_of drafts) (λ fault. fault ≡ Memory)
+lawful_answer drafts (Ok tables) made refused lawful = made
+lawful_answer drafts (Err Memory) made refused lawful = refl
+lawful_answer drafts (Err (Bad error)) made refused lawful = absurd (lawful_not_refused drafts error lawful refused)
+
+pub refused_answer : (drafts : List TableDraft) (answer : Result (List Table) SchemaFault) → OnOk answer (AreLawful drafts) → IfErr answer (IsRefusedWith drafts) → (error : SchemaError) → IsRefusedFor drafts error
+    → MatchResult answer (λ tables. ⊥) (λ fault. (fault ≡ Bad error) ⊎ (fault ≡ Memory))
+refused_answer drafts (Ok tables) lawful refused error told = lawful_not_refused drafts error lawful told
+refused_answer drafts (Err Memory) lawful refused error told = inr refl
+refused_answer drafts (Err (Bad other)) lawful refused error told = inl (ap (λ e. Bad e) (refusal_unique drafts other error refused told))

@@ -85,7 +85,18 @@ module _ {X : Type 0} (same : X → X → Bool) (decides : (x y : X) → Decides
       got (z ∷ zs) zero x e = (let f : Some z ≡ Some x = e in cc)
       got (z ∷ zs) (suc k) x e = got zs k x e
 
-  -- what the test of the code tells
+  -- lists that are each other in another order behind one item are so without it
+  pub permutation_rest : (x : X) (xs ys : List X) → IsPermutation (x ∷ xs) (x ∷ ys) → IsPermutation xs ys
+  permutation_rest x xs ys moved =
+      let longs : length (x ∷ ys) ≡ length (x ∷ xs) = length_permutation (x ∷ xs) (x ∷ ys) moved in
+      (reordered_by_times xs ys (omega arith)).0 (λ k d below.
+      let z = get_or xs k d in
+      let all : times z (x ∷ ys) ≡ times z (x ∷ xs) = sum_by-IsPermutation (λ y. one_if (same y z)) (x ∷ xs) (x ∷ ys) moved in
+      let left : times z (x ∷ xs) ≡ one_if (same x z) + times z xs = times-cons z x xs in
+      let right : times z (x ∷ ys) ≡ one_if (same x z) + times z ys = times-cons z x ys in
+      omega arith)
+
+  -- what a test of all counts tells
   pub reordered_from_test : (xs ys : List X) (b : Bool) → length xs ≡ length ys
       → ((b ≡ true) ↔ Any (λ x. count_by (λ y. same y x) xs ≢ count_by (λ y. same y x) ys) xs) → (not b ≡ true) ↔ IsPermutation xs ys
   reordered_from_test xs ys b long test =
@@ -101,9 +112,6 @@ module _ {X : Type 0} (same : X → X → Bool) (decides : (x y : X) → Decides
       at : (c : Bool) → ¬ (c ≡ true) → not c ≡ true
       at true n = absurd (n refl)
       at false n = refl
-
-  pub not_reordered : (xs ys : List X) → ¬ (length xs ≡ length ys) → ¬ IsPermutation xs ys
-  not_reordered xs ys differ moved = differ (sym (length_permutation xs ys moved))
 
 -- ---- lists of names
 

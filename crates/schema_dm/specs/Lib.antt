@@ -1,4 +1,5 @@
 pub mod Drafts
+pub mod Indexed
 pub mod Naming
 pub mod Relations
 pub mod Sameness

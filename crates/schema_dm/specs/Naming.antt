@@ -1,7 +1,7 @@
 -- Names of tables and columns, and the places at which names stand.
-use Rattle.std.specs.Prelude.{◌≡◌, ◌≢◌, ℕ, List, [], ◌∷◌, Bool, Option, map, nat_eq, slice_get, slice_index_or}
+use Rattle.std.specs.Prelude.{◌≡◌, ℕ, List, [], ◌∷◌, Bool, Option, map, nat_eq, slice_get, slice_index_or}
 use Rattle.std.specs.Option.{option_map}
-use Rattle.std.specs.List.{Any, count_by, position_or_len}
+use Rattle.std.specs.List.{Any, position_or_len}
 use Rattle.std.specs.Cmp.Lexicographic.{pointwise}
 use Rattle.value_dm.specs.declared.kind.Kind.{Kind}
 use Rattle.schema_dm.specs.declared.draft.Column.{Column}
@@ -36,7 +36,3 @@ column_place columns name = position_or_len (λ column. same_name column.name na
 -- the kind of the column at the place
 abbrev pub kind_at : List Column → ℕ → Option Kind
 kind_at columns place = option_map (λ column. column.kind) (slice_get columns place)
-
--- the name stands more often in one of the two lists than in the other
-unfoldable pub OccursOtherwise : List Name → List Name → Name → Type 0
-OccursOtherwise names others name = count_by (λ other. same_name other name) names ≢ count_by (λ other. same_name other name) others

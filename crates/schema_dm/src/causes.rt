@@ -1,11 +1,15 @@
-ghost use Rattle.std.specs.Prelude.{◌≡◌, ◌⊎◌, ◌↔◌, ◌<◌, ◌^◌, ◌++◌, IsTrue, Any, length, map, take, slice_index_or, codes, option_copied};
+ghost use Rattle.std.specs.Prelude.{◌≡◌, ◌⊎◌, ◌↔◌, ◌<◌, ◌^◌, ◌++◌, IfOk, IsTrue, Any, length, map, codes, option_copied};
 ghost use Rattle.members_dm.specs.Elements.{Repeats};
 ghost use Rattle.schema_dm.specs.Naming.{IsBadName, column_names, Declares};
 ghost use Rattle.schema_dm.specs.Drafts.{AnyOwnList, ClashesWith, DeclaresTable};
 
-use crate::lookup::{KeyedBy, contains, repeats};
-use crate::{Column, Columns, ForeignDraft, TableDraft};
-use value_dm::{Names, Text};
+use crate::index::Index;
+use crate::indexed::{IndexedDraft, IndexedDrafts};
+use crate::keyed::KeyedBy;
+use crate::name_list::NameList;
+use crate::{Column, ForeignDraft, TableDraft};
+use std::alloc::{AllocError, Global};
+use value_dm::{Names, Text, TryCopy};
 
 /// Whether the name is empty or begins with the byte order mark.
 pub fn is_bad_name(name: &Text) -> bool
@@ -47,71 +51,100 @@ pub fn has_no_column(draft: &TableDraft) -> bool
         || some_empty(draft.foreign.as_slice())
 }
 
-fn some_repeats<T: KeyedBy<Names>>(items: &[T]) -> bool
-    ensures { IsTrue result ↔ Any (λ item. Repeats (T.key_of item)) items.now }
+fn some_repeats<T: KeyedBy<Names>>(alloc: Global, items: &[T]) -> Result<bool, AllocError>
+    ensures { IfOk result (λ told. IsTrue told ↔ Any (λ item. Repeats (T.key_of item)) items.now) }
 {
-    items.iter().any(|item| names_repeat(item.key()))
+    for item in items {
+        if names_repeat(alloc, item.key())? {
+            return Ok(true);
+        }
+    }
+    Ok(false)
 }
 
-fn names_repeat(names: &Names) -> bool
-    ensures { IsTrue result ↔ Repeats names.now }
+fn names_repeat(alloc: Global, names: &Names) -> Result<bool, AllocError>
+    ensures { IfOk result (λ told. IsTrue told ↔ Repeats names.now) }
 {
-    repeats::<Text, Text>(names.as_slice())
+    let index = Index::new(alloc, names.copy(alloc)?.into_vec())?;
+    Ok(index.repeats())
 }
 
-/// Whether `DuplicateColumn` holds of the draft.
-pub fn has_duplicate_column(draft: &TableDraft) -> bool
-    ensures { IsTrue result ↔ (Repeats (column_names draft.now.columns) ⊎ AnyOwnList Repeats draft.now) }
+fn own_list_repeats(alloc: Global, draft: &TableDraft) -> Result<bool, AllocError>
+    ensures { IfOk result (λ told. IsTrue told ↔ AnyOwnList Repeats draft.now) }
 {
-    repeats::<Text, Column>(draft.columns.as_slice())
-        || some_repeats(draft.primaries.as_slice())
-        || some_repeats(draft.uniques.as_slice())
-        || some_repeats(draft.foreign.as_slice())
+    if some_repeats(alloc, draft.primaries.as_slice())? {
+        return Ok(true);
+    }
+    if some_repeats(alloc, draft.uniques.as_slice())? {
+        return Ok(true);
+    }
+    some_repeats(alloc, draft.foreign.as_slice())
 }
 
-fn names_unknown(columns: &Columns, names: &Names) -> bool
-    ensures { IsTrue result ↔ Any (λ name. ¬ Declares columns.now name) names.now }
+/// Whether `DuplicateColumn` holds of the draft. Refused for want of memory alone.
+pub fn has_duplicate_column(alloc: Global, draft: &IndexedDraft) -> Result<bool, AllocError>
+    ensures { IfOk result (λ told. IsTrue told ↔ (Repeats (column_names draft.now.columns) ⊎ AnyOwnList Repeats draft.now)) }
 {
-    names.as_slice().iter().any(|name| !declares(columns, name))
+    if draft.repeats_column() {
+        return Ok(true);
+    }
+    own_list_repeats(alloc, draft.draft())
 }
 
-fn declares(columns: &Columns, name: &Text) -> bool
-    ensures { IsTrue result ↔ Declares columns.now name.now }
+fn names_unknown(draft: &IndexedDraft, names: &Names) -> bool
+    ensures { IsTrue result ↔ Any (λ name. ¬ Declares draft.now.columns name) names.now }
 {
-    contains(columns.as_slice(), name)
+    names.as_slice().iter().any(|name| !draft.declares(name))
 }
 
-fn some_unknown<T: KeyedBy<Names>>(columns: &Columns, items: &[T]) -> bool
-    ensures { IsTrue result ↔ Any (λ item. Any (λ name. ¬ Declares columns.now name) (T.key_of item)) items.now }
+fn some_unknown<T: KeyedBy<Names>>(draft: &IndexedDraft, items: &[T]) -> bool
+    ensures { IsTrue result ↔ Any (λ item. Any (λ name. ¬ Declares draft.now.columns name) (T.key_of item)) items.now }
 {
-    items.iter().any(|item| names_unknown(columns, item.key()))
+    items.iter().any(|item| names_unknown(draft, item.key()))
+}
+
+fn lists_unknown(draft: &IndexedDraft, lists: &TableDraft) -> bool
+    ensures { IsTrue result ↔ AnyOwnList (Any (λ name. ¬ Declares draft.now.columns name)) lists.now }
+{
+    some_unknown(draft, lists.primaries.as_slice())
+        || some_unknown(draft, lists.uniques.as_slice())
+        || some_unknown(draft, lists.foreign.as_slice())
 }
 
 /// Whether `UnknownColumn` holds of the draft.
-pub fn has_unknown_column(draft: &TableDraft) -> bool
+pub fn has_unknown_column(draft: &IndexedDraft) -> bool
     ensures { IsTrue result ↔ AnyOwnList (Any (λ name. ¬ Declares draft.now.columns name)) draft.now }
 {
-    some_unknown(&draft.columns, draft.primaries.as_slice())
-        || some_unknown(&draft.columns, draft.uniques.as_slice())
-        || some_unknown(&draft.columns, draft.foreign.as_slice())
+    lists_unknown(draft, draft.draft())
 }
 
 /// Whether `UnknownTable` holds of the draft.
-pub fn has_unknown_table(drafts: &[TableDraft], draft: &TableDraft) -> bool
+pub fn has_unknown_table(drafts: &IndexedDrafts, draft: &TableDraft) -> bool
     ensures { IsTrue result ↔ Any (λ key. ¬ DeclaresTable drafts.now key.target) draft.now.foreign }
 {
     draft
         .foreign
         .as_slice()
         .iter()
-        .any(|key| !contains(drafts, &key.target))
+        .any(|key| !drafts.declares(&key.target))
 }
 
-/// Whether `SameColumnsTwice` holds of the draft.
-pub fn has_columns_twice(draft: &TableDraft) -> bool
-    ensures { IsTrue result ↔ Repeats (map (λ key. key.columns) draft.now.foreign) }
+fn column_lists(alloc: Global, keys: &[ForeignDraft]) -> Result<Vec<NameList>, AllocError>
+    ensures { IfOk result (λ lists. lists.items ≡ map (λ key. key.columns) keys.now) }
 {
-    repeats::<Names, ForeignDraft>(draft.foreign.as_slice())
+    let mut lists = Vec::with_capacity(alloc, keys.len())?;
+    for key in keys {
+        lists.push(NameList::from_names(alloc, &key.columns)?)?;
+    }
+    Ok(lists)
+}
+
+/// Whether `SameColumnsTwice` holds of the draft. Refused for want of memory alone.
+pub fn has_columns_twice(alloc: Global, draft: &TableDraft) -> Result<bool, AllocError>
+    ensures { IfOk result (λ told. IsTrue told ↔ Repeats (map (λ key. key.columns) draft.now.foreign)) }
+{
+    let index = Index::new(alloc, column_lists(alloc, draft.foreign.as_slice())?)?;
+    Ok(index.repeats())
 }
 
 fn is_reference_name(name: &Text, column: &Text) -> bool

@@ -1,18 +1,11 @@
-ghost use Rattle.std.specs.Prelude.{◌≡◌, ◌≢◌, ◌⊎◌, ◌↔◌, IsTrue, Any, length, count_by, slice_get, option_copied};
+ghost use Rattle.std.specs.Prelude.{◌≡◌, ◌≢◌, ◌⊎◌, ◌↔◌, IfOk, IsTrue, Any, length, option_copied};
 ghost use Rattle.std.specs.List.Sorted.{IsPermutation};
-ghost use Rattle.schema_dm.specs.Naming.{OccursOtherwise, same_name};
 ghost use Rattle.schema_dm.specs.Drafts.{AnyKindsDiffer, AnyUniqueList, AreNoKey, KindsDiffer, KindsOfKeyDiffer, ReferencesNoKey, ReferencesOtherKinds, kind_of_name, referenced_columns, target_of};
 
-use crate::lookup::place_of;
-use crate::{Column, ForeignDraft, TableDraft};
+use crate::indexed::{IndexedDraft, IndexedDrafts};
+use crate::{ForeignDraft, TableDraft};
+use std::alloc::{AllocError, Global};
 use value_dm::{Kind, Names, Text};
-
-/// The draft that the foreign key references: the first of the name.
-pub fn target_of<'a>(drafts: &'a [TableDraft], key: &ForeignDraft) -> Option<&'a TableDraft>
-    ensures { option_copied result ≡ target_of drafts.now key.now }
-{
-    drafts.get(place_of(drafts, &key.target))
-}
 
 /// The names of the referenced columns: as given, or else the target's first primary key.
 pub fn referenced_columns<'a>(key: &'a ForeignDraft, target: &'a TableDraft) -> Option<&'a Names>
@@ -24,91 +17,76 @@ pub fn referenced_columns<'a>(key: &'a ForeignDraft, target: &'a TableDraft) -> 
     }
 }
 
-fn occurrences(name: &Text, names: &[Text]) -> usize
-    ensures { result ≡ count_by (λ other. same_name other name.now) names.now }
+fn are_no_key(
+    alloc: Global,
+    columns: &Names,
+    target: &IndexedDraft,
+    names: &Names,
+) -> Result<bool, AllocError>
+    ensures { IfOk result (λ told. IsTrue told ↔ ((length names.now ≢ length columns.now) ⊎ (¬ AnyUniqueList (IsPermutation names.now) target.now))) }
 {
-    names.iter().filter(|other| *other == name).count()
-}
-
-#[tactic(auto, unfolding(crate::specs::Naming::OccursOtherwise))]
-fn occurs_otherwise(names: &[Text], others: &[Text], name: &Text) -> bool
-    ensures { IsTrue result ↔ OccursOtherwise names.now others.now name.now }
-{
-    occurrences(name, names) != occurrences(name, others)
-}
-
-fn some_occurs_otherwise(names: &[Text], others: &[Text]) -> bool
-    ensures { IsTrue result ↔ Any (OccursOtherwise names.now others.now) names.now }
-{
-    names
-        .iter()
-        .any(|name| occurs_otherwise(names, others, name))
-}
-
-fn are_reordered(names: &[Text], others: &[Text]) -> bool
-    ensures { IsTrue result ↔ IsPermutation names.now others.now }
-{
-    if names.len() != others.len() {
-        return false;
+    if names.len() != columns.len() {
+        return Ok(true);
     }
-    !some_occurs_otherwise(names, others)
+    Ok(!target.has_unique(alloc, names)?)
 }
 
-fn any_reordered(names: &[Text], lists: &[Names]) -> bool
-    ensures { IsTrue result ↔ Any (IsPermutation names.now) lists.now }
+fn is_no_key(alloc: Global, key: &ForeignDraft, target: &IndexedDraft) -> Result<bool, AllocError>
+    ensures { IfOk result (λ told. IsTrue told ↔ AreNoKey key.now.columns target.now (referenced_columns key.now target.now)) }
 {
-    lists
-        .iter()
-        .any(|list| are_reordered(names, list.as_slice()))
-}
-
-fn is_unique_list(names: &[Text], target: &TableDraft) -> bool
-    ensures { IsTrue result ↔ AnyUniqueList (IsPermutation names.now) target.now }
-{
-    any_reordered(names, target.primaries.as_slice())
-        || any_reordered(names, target.uniques.as_slice())
-}
-
-fn are_no_key(columns: &Names, target: &TableDraft, names: &Names) -> bool
-    ensures { IsTrue result ↔ ((length names.now ≢ length columns.now) ⊎ (¬ AnyUniqueList (IsPermutation names.now) target.now)) }
-{
-    names.len() != columns.len() || !is_unique_list(names.as_slice(), target)
-}
-
-fn is_no_key(key: &ForeignDraft, target: &TableDraft) -> bool
-    ensures { IsTrue result ↔ AreNoKey key.now.columns target.now (referenced_columns key.now target.now) }
-{
-    match referenced_columns(key, target) {
-        None => true,
-        Some(names) => are_no_key(&key.columns, target, names),
+    match referenced_columns(key, target.draft()) {
+        None => Ok(true),
+        Some(names) => are_no_key(alloc, &key.columns, target, names),
     }
 }
 
-fn references_no_key(drafts: &[TableDraft], key: &ForeignDraft) -> bool
-    ensures { IsTrue result ↔ ReferencesNoKey key.now (target_of drafts.now key.now) }
+fn references_no_key(
+    alloc: Global,
+    drafts: &IndexedDrafts,
+    key: &ForeignDraft,
+) -> Result<bool, AllocError>
+    ensures { IfOk result (λ told. IsTrue told ↔ ReferencesNoKey key.now (target_of drafts.now key.now)) }
 {
-    match target_of(drafts, key) {
-        None => false,
-        Some(target) => is_no_key(key, target),
+    match drafts.target_of(key) {
+        None => Ok(false),
+        Some(target) => is_no_key(alloc, key, target),
     }
 }
 
-/// Whether `NotAKey` holds of the draft.
-pub fn has_no_key(drafts: &[TableDraft], draft: &TableDraft) -> bool
-    ensures { IsTrue result ↔ Any (λ key. ReferencesNoKey key (target_of drafts.now key)) draft.now.foreign }
+fn any_no_key(
+    alloc: Global,
+    drafts: &IndexedDrafts,
+    keys: &[ForeignDraft],
+) -> Result<bool, AllocError>
+    ensures { IfOk result (λ told. IsTrue told ↔ Any (λ key. ReferencesNoKey key (target_of drafts.now key)) keys.now) }
+{
+    for key in keys {
+        if references_no_key(alloc, drafts, key)? {
+            return Ok(true);
+        }
+    }
+    Ok(false)
+}
+
+/// Whether `NotAKey` holds of the draft. Refused for want of memory alone.
+pub fn has_no_key(
+    alloc: Global,
+    drafts: &IndexedDrafts,
+    draft: &TableDraft,
+) -> Result<bool, AllocError>
+    ensures { IfOk result (λ told. IsTrue told ↔ Any (λ key. ReferencesNoKey key (target_of drafts.now key)) draft.now.foreign) }
+{
+    any_no_key(alloc, drafts, draft.foreign.as_slice())
+}
+
+fn kind_of_name(draft: &IndexedDraft, name: &Text) -> Option<Kind>
+    ensures { result ≡ kind_of_name draft.now.columns name.now }
 {
     draft
-        .foreign
+        .draft()
+        .columns
         .as_slice()
-        .iter()
-        .any(|key| references_no_key(drafts, key))
-}
-
-fn kind_of_name(columns: &[Column], name: &Text) -> Option<Kind>
-    ensures { result ≡ kind_of_name columns.now name.now }
-{
-    columns
-        .get(place_of(columns, name))
+        .get(draft.column_place(name))
         .map(|column| column.kind)
 }
 
@@ -121,53 +99,53 @@ fn kinds_differ(kind: Option<Kind>, other: Option<Kind>) -> bool
     }
 }
 
-fn any_kinds_differ(columns: &[Column], names: &[Text], others: &[Column], targets: &[Text]) -> bool
-    ensures { IsTrue result ↔ AnyKindsDiffer columns.now names.now others.now targets.now }
+fn any_kinds_differ(
+    draft: &IndexedDraft,
+    names: &[Text],
+    target: &IndexedDraft,
+    targets: &[Text],
+) -> bool
+    ensures { IsTrue result ↔ AnyKindsDiffer draft.now.columns names.now target.now.columns targets.now }
 {
     for (i, name) in names.iter().enumerate() {
         if i >= targets.len() {
             return false;
         }
-        if kinds_differ(
-            kind_of_name(columns, name),
-            kind_of_name(others, &targets[i]),
-        ) {
+        if kinds_differ(kind_of_name(draft, name), kind_of_name(target, &targets[i])) {
             return true;
         }
     }
     false
 }
 
-fn has_other_kinds(draft: &TableDraft, key: &ForeignDraft, target: &TableDraft) -> bool
+fn has_other_kinds(draft: &IndexedDraft, key: &ForeignDraft, target: &IndexedDraft) -> bool
     ensures { IsTrue result ↔ KindsOfKeyDiffer draft.now.columns key.now.columns target.now.columns (referenced_columns key.now target.now) }
 {
-    match referenced_columns(key, target) {
+    match referenced_columns(key, target.draft()) {
         None => false,
-        Some(names) => any_kinds_differ(
-            draft.columns.as_slice(),
-            key.columns.as_slice(),
-            target.columns.as_slice(),
-            names.as_slice(),
-        ),
+        Some(names) => any_kinds_differ(draft, key.columns.as_slice(), target, names.as_slice()),
     }
 }
 
-fn references_other_kinds(drafts: &[TableDraft], draft: &TableDraft, key: &ForeignDraft) -> bool
+fn references_other_kinds(drafts: &IndexedDrafts, draft: &IndexedDraft, key: &ForeignDraft) -> bool
     ensures { IsTrue result ↔ ReferencesOtherKinds draft.now.columns key.now (target_of drafts.now key.now) }
 {
-    match target_of(drafts, key) {
+    match drafts.target_of(key) {
         None => false,
         Some(target) => has_other_kinds(draft, key, target),
     }
 }
 
+fn any_other_kinds(drafts: &IndexedDrafts, draft: &IndexedDraft, keys: &[ForeignDraft]) -> bool
+    ensures { IsTrue result ↔ Any (λ key. ReferencesOtherKinds draft.now.columns key (target_of drafts.now key)) keys.now }
+{
+    keys.iter()
+        .any(|key| references_other_kinds(drafts, draft, key))
+}
+
 /// Whether `KindMismatch` holds of the draft.
-pub fn has_kind_mismatch(drafts: &[TableDraft], draft: &TableDraft) -> bool
+pub fn has_kind_mismatch(drafts: &IndexedDrafts, draft: &IndexedDraft) -> bool
     ensures { IsTrue result ↔ Any (λ key. ReferencesOtherKinds draft.now.columns key (target_of drafts.now key)) draft.now.foreign }
 {
-    draft
-        .foreign
-        .as_slice()
-        .iter()
-        .any(|key| references_other_kinds(drafts, draft, key))
+    any_other_kinds(drafts, draft, draft.draft().foreign.as_slice())
 }

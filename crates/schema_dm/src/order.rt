@@ -3,7 +3,7 @@ ghost use Rattle.members_dm.specs.Membership.{IsRising};
 ghost use Rattle.schema_dm.specs.Shapes.{IsBefore, IsShape, IsShapeColumn, IsShapeTable};
 
 use crate::causes::is_bad_name;
-use crate::lookup::KeyedBy;
+use crate::keyed::KeyedBy;
 use crate::verdict::{MOST_COLUMNS, MOST_TABLES};
 use crate::{Column, ShapeTable};
 use std::cmp::Ordering;

@@ -1,8 +1,9 @@
-ghost use Rattle.std.specs.Prelude.{◌≡◌, ◌<◌, length, IfOk, IfErr, IfNone, IfSome, OnOk};
+ghost use Rattle.std.specs.Prelude.{◌≡◌, ◌⊎◌, ◌<◌, length, IfOk, IfErr, IfNone, IfSome, MatchResult, OnOk, Some};
 
 use crate::build::tables_of;
+use crate::indexed::IndexedDrafts;
 use crate::relation::sides;
-use crate::verdict::first_error;
+use crate::verdict::{count_error, first_error};
 use crate::{Binary, Drafts, SchemaFault, Table};
 use std::alloc::{AllocError, Global};
 use std::marker::Model;
@@ -30,7 +31,8 @@ impl Model for Schema {
 
 impl Schema {
     ghost use Rattle.schema_dm.specs.declared.table.Binary.{Binary as Sides};
-    ghost use Rattle.schema_dm.specs.Drafts.{AreLawful};
+    ghost use Rattle.schema_dm.specs.declared.refusal.SchemaError.{SchemaError as TheError};
+    ghost use Rattle.schema_dm.specs.Drafts.{AreLawful, IsRefusedFor};
     ghost use Rattle.schema_dm.specs.Relations.{IsBinaryRelation};
     ghost use Rattle.schema_dm.specs.Schemas.{IsRefusedWith, IsSchema, schema_of};
 
@@ -45,14 +47,31 @@ impl Schema {
         ensures made { IfOk result (λ schema. schema ≡ schema_of drafts) }
         ensures lawful { OnOk result (AreLawful drafts) }
         ensures refused { IfErr result (IsRefusedWith drafts) }
+
+        // Of lawful drafts nothing but memory is wanting, and of others the one error is told, or memory is wanting.
+        ensures only { AreLawful drafts → MatchResult result (λ schema. schema ≡ schema_of drafts) (λ fault. fault ≡ SchemaFault.Memory) }
+        ensures first { (error : TheError) → IsRefusedFor drafts error →
+            MatchResult result (λ schema. ⊥) (λ fault. (fault ≡ SchemaFault.Bad error) ⊎ (fault ≡ SchemaFault.Memory)) }
     {
-        let listed = drafts.as_slice();
-        match first_error(listed) {
+        Schema::of_drafts(alloc, drafts)
+    }
+
+    fn of_drafts(alloc: Global, drafts: Drafts) -> Result<Schema, SchemaFault>
+        ensures made { IfOk result (λ schema. schema ≡ schema_of drafts) }
+        ensures lawful { OnOk result (AreLawful drafts) }
+        ensures refused { IfErr result (IsRefusedWith drafts) }
+    {
+        match count_error(drafts.as_slice()) {
+            None => {}
+            Some(error) => return Err(SchemaFault::Bad(error)),
+        }
+        let indexed = IndexedDrafts::new(alloc, drafts)?;
+        match first_error(alloc, &indexed)? {
             None => {}
             Some(error) => return Err(SchemaFault::Bad(error)),
         }
         Ok(Schema {
-            tables: tables_of(alloc, listed)?,
+            tables: tables_of(alloc, &indexed)?,
         })
     }
 
@@ -66,6 +85,7 @@ impl Schema {
         requires { table < length self.now }
         ensures found { IfSome result (IsBinaryRelation self.now table) }
         ensures none { IfNone result ((sides : Sides) → ¬ IsBinaryRelation self.now table sides) }
+        ensures only { (sides : Sides) → IsBinaryRelation self.now table sides → result ≡ Some sides }
     {
         sides(self.tables.as_slice(), table)
     }

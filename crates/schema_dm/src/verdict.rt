@@ -1,14 +1,15 @@
-ghost use Rattle.std.specs.Prelude.{◌≡◌, ◌↔◌, ◌<◌, ◌≤◌, ℕ, IsTrue, IfSome, IfNone, length, slice_get};
-ghost use Rattle.schema_dm.specs.Drafts.{AreLawful, Holds, IsRefusedFor, IsSound, NoneEarlier};
+ghost use Rattle.std.specs.Prelude.{◌≡◌, ◌↔◌, ◌<◌, ◌≤◌, ℕ, IsTrue, IfOk, IfSome, IfNone, length, slice_get};
+ghost use Rattle.schema_dm.specs.Drafts.{Holds, IsRefusedFor, IsSound, NoneEarlier};
 ghost use Rattle.schema_dm.specs.declared.draft.TableDraft.{TableDraft};
 
 use crate::causes::{
     has_bad_name, has_clash, has_columns_twice, has_duplicate_column, has_no_column,
     has_unknown_column, has_unknown_table,
 };
+use crate::indexed::{IndexedDraft, IndexedDrafts};
 use crate::keys::{has_kind_mismatch, has_no_key};
-use crate::lookup::contains;
 use crate::{SchemaCause, SchemaError, TableDraft};
+use std::alloc::{AllocError, Global};
 
 /// The most tables of a schema.
 pub const MOST_TABLES: usize = 4096;
@@ -32,67 +33,79 @@ const TABLE_CAUSES: [SchemaCause; 12] = [
     SchemaCause::NameClash,
 ];
 
-fn holds(cause: SchemaCause, drafts: &[TableDraft], place: usize, draft: &TableDraft) -> bool
-    requires { place ≤ length drafts.now }
-    ensures { IsTrue result ↔ Holds cause drafts.now place draft.now }
+fn holds(
+    alloc: Global,
+    cause: SchemaCause,
+    drafts: &IndexedDrafts,
+    place: usize,
+    draft: &IndexedDraft,
+) -> Result<bool, AllocError>
+    ensures { IfOk result (λ told. IsTrue told ↔ Holds cause drafts.now place draft.now) }
 {
+    let table = draft.draft();
     match cause {
-        SchemaCause::NoTable => false,
-        SchemaCause::TooManyTables => false,
-        SchemaCause::BadName => has_bad_name(draft),
-        SchemaCause::NoColumn => has_no_column(draft),
-        SchemaCause::TooManyColumns => draft.columns.len() > MOST_COLUMNS,
-        SchemaCause::DuplicateTable => contains(&drafts[..place], &draft.name),
-        SchemaCause::DuplicateColumn => has_duplicate_column(draft),
-        SchemaCause::UnknownColumn => has_unknown_column(draft),
-        SchemaCause::UnknownTable => has_unknown_table(drafts, draft),
-        SchemaCause::TwoPrimaryKeys => draft.primaries.len() > 1,
-        SchemaCause::NotAKey => has_no_key(drafts, draft),
-        SchemaCause::KindMismatch => has_kind_mismatch(drafts, draft),
-        SchemaCause::SameColumnsTwice => has_columns_twice(draft),
-        SchemaCause::NameClash => has_clash(draft),
+        SchemaCause::NoTable => Ok(false),
+        SchemaCause::TooManyTables => Ok(false),
+        SchemaCause::BadName => Ok(has_bad_name(table)),
+        SchemaCause::NoColumn => Ok(has_no_column(table)),
+        SchemaCause::TooManyColumns => Ok(table.columns.len() > MOST_COLUMNS),
+        SchemaCause::DuplicateTable => Ok(drafts.declares_before(place, &table.name)),
+        SchemaCause::DuplicateColumn => has_duplicate_column(alloc, draft),
+        SchemaCause::UnknownColumn => Ok(has_unknown_column(draft)),
+        SchemaCause::UnknownTable => Ok(has_unknown_table(drafts, table)),
+        SchemaCause::TwoPrimaryKeys => Ok(table.primaries.len() > 1),
+        SchemaCause::NotAKey => has_no_key(alloc, drafts, table),
+        SchemaCause::KindMismatch => Ok(has_kind_mismatch(drafts, draft)),
+        SchemaCause::SameColumnsTwice => has_columns_twice(alloc, table),
+        SchemaCause::NameClash => Ok(has_clash(table)),
     }
 }
 
-fn first_cause(drafts: &[TableDraft], place: usize, draft: &TableDraft) -> Option<SchemaCause>
-    requires { place ≤ length drafts.now }
-    ensures holds { IfSome result (λ cause. Holds cause drafts.now place draft.now) }
-    ensures first { IfSome result (λ cause. NoneEarlier cause drafts.now place draft.now) }
-    ensures sound { IfNone result (IsSound drafts.now place draft.now) }
+fn first_cause(
+    alloc: Global,
+    drafts: &IndexedDrafts,
+    place: usize,
+    draft: &IndexedDraft,
+) -> Result<Option<SchemaCause>, AllocError>
+    ensures holds { IfOk result (λ told. IfSome told (λ cause. Holds cause drafts.now place draft.now)) }
+    ensures first { IfOk result (λ told. IfSome told (λ cause. NoneEarlier cause drafts.now place draft.now)) }
+    ensures sound { IfOk result (λ told. IfNone told (IsSound drafts.now place draft.now)) }
 {
     for cause in TABLE_CAUSES {
-        if holds(cause, drafts, place, draft) {
-            return Some(cause);
+        if holds(alloc, cause, drafts, place, draft)? {
+            return Ok(Some(cause));
         }
     }
-    None
+    Ok(None)
 }
 
-fn first_bad_table(drafts: &[TableDraft]) -> Option<SchemaError>
+/// Why the drafts, 1 to 4,096 of them, stand for no schema: the first table with a cause, and its first
+/// cause. None exactly where no cause holds of one. Refused for want of memory alone.
+pub fn first_error(alloc: Global, drafts: &IndexedDrafts) -> Result<Option<SchemaError>, AllocError>
     requires some { 0 < length drafts.now }
     requires few { length drafts.now ≤ MOST_TABLES }
-    ensures refused { IfSome result (IsRefusedFor drafts.now) }
-    ensures sound { IfNone result ((place : ℕ) (draft : TableDraft) → slice_get drafts.now place ≡ Some draft → IsSound drafts.now place draft) }
+    ensures refused { IfOk result (λ told. IfSome told (IsRefusedFor drafts.now)) }
+    ensures sound { IfOk result (λ told. IfNone told ((place : ℕ) (draft : TableDraft) → slice_get drafts.now place ≡ Some draft → IsSound drafts.now place draft)) }
 {
-    for (place, draft) in drafts.iter().enumerate() {
-        match first_cause(drafts, place, draft) {
+    for (place, draft) in drafts.as_slice().iter().enumerate() {
+        match first_cause(alloc, drafts, place, draft)? {
             None => {}
             Some(cause) => {
-                return Some(SchemaError {
+                return Ok(Some(SchemaError {
                     cause,
                     table: place as u64 + 1,
-                });
+                }));
             }
         }
     }
-    None
+    Ok(None)
 }
 
-/// Why the drafts stand for no schema: the first table with a cause, and its first cause. None
-/// exactly where they are lawful.
-pub fn first_error(drafts: &[TableDraft]) -> Option<SchemaError>
+/// Why so many drafts stand for no schema. None exactly where there are 1 to 4,096.
+pub fn count_error(drafts: &[TableDraft]) -> Option<SchemaError>
     ensures refused { IfSome result (IsRefusedFor drafts.now) }
-    ensures lawful { IfNone result (AreLawful drafts.now) }
+    ensures some { IfNone result (0 < length drafts.now) }
+    ensures few { IfNone result (length drafts.now ≤ MOST_TABLES) }
 {
     if drafts.is_empty() {
         return Some(SchemaError {
@@ -106,5 +119,5 @@ pub fn first_error(drafts: &[TableDraft]) -> Option<SchemaError>
             table: 0,
         });
     }
-    first_bad_table(drafts)
+    None
 }

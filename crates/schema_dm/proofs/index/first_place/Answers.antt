@@ -1,5 +1,4 @@
-use Rattle.std.proofs.Common.{◌≡◌, ◌≤◌, ◌<◌, ◌∙◌, rules, refl, sym, get_or, length, Some}
-use Rattle.std.specs.Prelude.{slice_get}
+use Rattle.std.proofs.Common.{◌≡◌, ◌≤◌, ◌<◌, ◌∙◌, rules, sym, get_or, length}
 use Rattle.std.proofs.lemmas.List.{get_or_default}
 use Rattle.members_dm.proofs.OrderLemmas.{first_here, none_behind, none_here, ties_from_eq}
 use Rattle.schema_dm.proofs.index.first_place.Goals as goal

@@ -1,4 +1,4 @@
-use Rattle.std.proofs.Common.{◌-◌, ◌∙◌, ℕ, arith, get_or, refl, sym}
+use Rattle.std.proofs.Common.{◌-◌, arith, get_or, refl}
 use Rattle.std.proofs.lemmas.List.{get_or_default}
 use Rattle.members_dm.proofs.OrderLemmas.{found_twice, none_more, none_twice, ties_from_eq}
 use Rattle.schema_dm.proofs.index.some_stands_twice.Goals as goal
