@@ -1,9 +1,8 @@
 -- Drafts that grow by columns and keys.
-use Rattle.std.proofs.Common.{◌≡◌, ℕ, ◌+◌, ◌<◌, ◌≤◌, List, [], ◌∷◌, ◌++◌, refl, sym, ap, ◌∙◌, take, get_or, length, append_assoc, Bool, zero-add, subst}
-use Rattle.std.specs.List.{flat_map, list_any, enumerate_from}
-use Rattle.std.proofs.lemmas.List.FromFn.{length-enumerate_from, get_or-enumerate_from}
+use Rattle.std.proofs.Common.{◌≡◌, ℕ, ◌+◌, ◌<◌, List, [], ◌∷◌, ◌++◌, refl, sym, ap, ◌∙◌, take, get_or, length, append_assoc, Bool}
+use Rattle.std.specs.List.{flat_map, list_any}
 use Rattle.value_dm.specs.declared.kind.Kind.{Kind}
-use Rattle.std.proofs.lemmas.List.{append-nil, flat_map_more, take_more, take_all}
+use Rattle.std.proofs.lemmas.List.{append-nil, flat_map_more, take_more}
 use Rattle.std.proofs.lemmas.List.Concat.{flat_map-append}
 use Rattle.schema_dm.specs.declared.draft.Column.{Column as ColumnDraft}
 use Rattle.schema_dm.specs.declared.draft.ForeignDraft.{ForeignDraft}
@@ -13,8 +12,7 @@ use Rattle.ddl_syntax_dm.specs.declared.syntax.Key.TheVariants as keys
 use Rattle.ddl_syntax_dm.specs.declared.syntax.Target.{Target}
 use Rattle.ddl_syntax_dm.specs.Words.{Name}
 use Rattle.ddl_syntax_dm.specs.declared.syntax.Column.{Column}
-use Rattle.ddl_syntax_dm.specs.declared.syntax.Statement.{Statement}
-use Rattle.ddl_dm.specs.Meaning.{primary_columns, unique_columns, foreign_drafts, foreign_draft, draft_with, kind_of, is_not_null, column_of, drafts_at, numbered_drafts, drafts_of}
+use Rattle.ddl_dm.specs.Meaning.{primary_columns, unique_columns, foreign_drafts, foreign_draft, draft_with, kind_of, is_not_null, column_of}
 use Rattle.ddl_dm.specs.Building.{extended}
 
 abbrev pub made : Name → List ColumnDraft → List (List Name) → List (List Name) → List ForeignDraft → TableDraft
@@ -71,12 +69,6 @@ column_added draft column name kind not_null new names kinds marks e =
     same : made_column name kind not_null ≡ column_of column
     same = ap (λ x. made_column x kind not_null) names ∙ ap (λ x. made_column column.name x not_null) kinds ∙ ap (λ x. made_column column.name (kind_of column.kind) x) marks
 
-pub draft_made : (name : Name) (c : List ColumnDraft) (k l : List Key) (first second third : TableDraft) → first ≡ draft_with name [] [] → second ≡ extended first c k → third ≡ extended second [] l
-    → third ≡ draft_with name c (k ++ l)
-draft_made name c k l first second third begun grown ended =
-    ended ∙ ap (λ d. extended d [] l) (grown ∙ ap (λ d. extended d c k) begun) ∙ extended_twice (draft_with name [] []) c [] k l
-    ∙ ap (λ x. extended (draft_with name [] []) x (k ++ l)) (append-nil c) ∙ extended_empty name c (k ++ l)
-
 -- ---- loops
 
 more_at : {X A : Type 0} (f : X → List A) (xs : List X) (i : ℕ) (x : X) → i < length xs → x ≡ get_or xs i x → flat_map f (take i xs) ++ f x ≡ flat_map f (take (i + 1) xs)
@@ -92,24 +84,3 @@ pub keys_more : {X : Type 0} (g : X → List Key) (first draft new : TableDraft)
     → draft ≡ extended first [] (flat_map g (take i xs)) → new ≡ extended draft [] (g x) → new ≡ extended first [] (flat_map g (take (i + 1) xs))
 keys_more g first draft new xs i x within is before step =
     step ∙ ap (λ d. extended d [] (g x)) before ∙ extended_twice first [] [] (flat_map g (take i xs)) (g x) ∙ ap (λ k. extended first [] k) (more_at g xs i x within is)
-
--- ---- the drafts of all statements
-
-abbrev pair : ℕ → Statement → ℕ × Statement
-pair n x = (n, x)
-
-pub drafts_more : (statements : List Statement) (i : ℕ) (s : Statement) (before new : List TableDraft) → i < length statements → s ≡ get_or statements i s
-    → before ≡ flat_map (numbered_drafts statements) (take i (enumerate_from 0 statements)) → new ≡ before ++ drafts_at statements (take i statements) s
-    → new ≡ flat_map (numbered_drafts statements) (take (i + 1) (enumerate_from 0 statements))
-drafts_more statements i s before new within is held step =
-    step ∙ ap (λ ds. ds ++ drafts_at statements (take i statements) s) held
-    ∙ more_at (numbered_drafts statements) (enumerate_from 0 statements) i (i, s) (subst (λ n. i < n) (sym (length-enumerate_from 0 statements)) within) (sym numbered)
-  where
-    numbered : get_or (enumerate_from 0 statements) i (i, s) ≡ (i, s)
-    numbered = get_or-enumerate_from 0 statements i (i, s) within ∙ ap (λ n. pair n (get_or statements i s)) (zero-add i) ∙ ap (λ x. pair i x) (sym is)
-
-pub drafts_all : (statements : List Statement) (place : ℕ) (found : List TableDraft) → length statements ≤ place
-    → found ≡ flat_map (numbered_drafts statements) (take place (enumerate_from 0 statements)) → found ≡ drafts_of statements
-unfolding drafts_of
-drafts_all statements place found past held =
-    held ∙ ap (λ es. flat_map (numbered_drafts statements) es) (take_all place (enumerate_from 0 statements) (subst (λ n. n ≤ place) (sym (length-enumerate_from 0 statements)) past))

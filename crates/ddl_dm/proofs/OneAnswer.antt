@@ -10,8 +10,6 @@ use Rattle.grammar_dm.specs.Verdict.Suffix.{all_left, less_left}
 use Rattle.grammar_dm.proofs.Fronts.{whole_begins, less_begins, suffix_trans, one_fault}
 use Rattle.grammar_dm.proofs.Laws.{judges}
 use Rattle.schema_dm.specs.declared.table.Table.{Table}
-use Rattle.schema_dm.specs.declared.refusal.SchemaError.{SchemaError}
-use Rattle.schema_dm.specs.Drafts.{IsRefusedFor}
 use Rattle.schema_dm.proofs.Refusals.{lawful_not_refused, refusal_unique}
 use Rattle.ddl_tokens_dm.specs.declared.token.Placed.{Placed}
 use Rattle.ddl_tokens_dm.specs.Tokens.{AreTokens}
@@ -25,8 +23,8 @@ use Rattle.ddl_syntax_dm.specs.Answer.{is_bare_word, IsTypeFault, IsFile, IsFaul
 use Rattle.ddl_syntax_dm.proofs.StatementReaders.{file_more, file_reads}
 use Rattle.ddl_dm.specs.declared.ddl.DdlError.{DdlError}
 use Rattle.ddl_dm.specs.declared.ddl.DdlError.TheVariants.{Memory, NotUtf8, BadToken, Unexpected, UnknownType, AlterUnknown, Schema}
-use Rattle.ddl_dm.specs.Meaning.{drafts_of, unknown_alter}
-use Rattle.ddl_dm.specs.Schema.{IsDeclared, IsDdl, IsDdlFault, syntax_told}
+use Rattle.ddl_dm.specs.Meaning.{drafts_of}
+use Rattle.ddl_dm.specs.Schema.{IsDeclared, IsDdl, IsDdlFault, syntax_told, IsSchemaRead}
 
 -- ---- tokens
 
@@ -257,3 +255,37 @@ schema_one bytes a b some other h k =
     let y = in_layers bytes b other k in
     behind_one x.read a b some other x.behind
     (subst (λ (r : ReadTokens). IsBehind r b) (sym (syntax_one bytes x.read y.read x.some y.some x.right y.right)) y.behind)
+
+-- ---- the only answer
+
+answered : (e : DdlError) → ¬ (e ≡ Memory) → IsSchemaAnswered (Err e)
+answered Memory some = some refl
+answered (NotUtf8 place) some = tt
+answered (BadToken place) some = tt
+answered (Unexpected place) some = tt
+answered (UnknownType place) some = tt
+answered (AlterUnknown number) some = tt
+answered (Schema error) some = tt
+
+fault_alone : (bytes : List ℕ) (fault : DdlError) → IsSchemaAnswered (Err fault) → IsDdlFault bytes fault
+    → IsDdlFault bytes fault × ((tables : List Table) → ¬ IsDdl bytes tables) × ((other : DdlError) → ¬ (other ≡ Memory) → IsDdlFault bytes other → other ≡ fault)
+fault_alone bytes fault some h = (
+  h,
+  (λ tables k. let e : ◌≡◌ {A = ReadSchema} (Ok tables) (Err fault) = schema_one bytes (Ok tables) (Err fault) tt some k h in cc),
+  (λ other more k. let e : ◌≡◌ {A = ReadSchema} (Err other) (Err fault) = schema_one bytes (Err other) (Err fault) (answered other more) some k h in cc),
+)
+
+-- a right answer is read as the only one
+pub read_once : (bytes : List ℕ) (answer : Result (List Table) DdlError) → IsRightSchema bytes answer → IsSchemaRead bytes answer
+read_once bytes (Ok tables) h = (
+  h,
+  (λ others k. let e : ◌≡◌ {A = ReadSchema} (Ok others) (Ok tables) = schema_one bytes (Ok others) (Ok tables) tt tt k h in cc),
+  (λ fault some k. let e : ◌≡◌ {A = ReadSchema} (Ok tables) (Err fault) = schema_one bytes (Ok tables) (Err fault) tt (answered fault some) h k in cc),
+)
+read_once bytes (Err Memory) h = tt
+read_once bytes (Err (NotUtf8 place)) h = fault_alone bytes (NotUtf8 place) tt h
+read_once bytes (Err (BadToken place)) h = fault_alone bytes (BadToken place) tt h
+read_once bytes (Err (Unexpected place)) h = fault_alone bytes (Unexpected place) tt h
+read_once bytes (Err (UnknownType place)) h = fault_alone bytes (UnknownType place) tt h
+read_once bytes (Err (AlterUnknown number)) h = fault_alone bytes (AlterUnknown number) tt h
+read_once bytes (Err (Schema error)) h = fault_alone bytes (Schema error) tt h

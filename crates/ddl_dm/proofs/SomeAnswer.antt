@@ -1,5 +1,5 @@
 -- A file of statements has a right answer, besides want of memory.
-use Rattle.std.proofs.Common.{◌≡◌, ◌≢◌, ◌∙◌, ℕ, zero, suc, ◌+◌, ◌<◌, ◌≤◌, List, [], ◌∷◌, ◌++◌, length, take, Option, Some, None, Result, Ok, Err, Bool, true, false, ◌&&◌, refl, sym, ap, subst, inl, inr, ◌⊎◌, cond, arith, chars}
+use Rattle.std.proofs.Common.{◌≡◌, ◌≢◌, ◌∙◌, ℕ, zero, suc, ◌+◌, ◌<◌, ◌≤◌, List, [], ◌∷◌, ◌++◌, length, take, Option, Some, None, Result, Ok, Err, Bool, true, false, ◌&&◌, refl, ap, subst, inl, inr, cond, arith, chars}
 use Rattle.std.specs.Prelude.{IsUtf8, slice_get}
 use Rattle.std.specs.Str.{IsValidUpTo}
 use Rattle.std.proofs.lemmas.Bool.{cases_eq, cases_lt}
@@ -21,7 +21,7 @@ use Rattle.ddl_tokens_dm.specs.declared.token.Token.{Token}
 use Rattle.ddl_tokens_dm.specs.declared.token.Token.TheVariants as tokens
 use Rattle.ddl_tokens_dm.specs.Scanning.{Lexeme, lexeme}
 use Rattle.ddl_tokens_dm.specs.Scanning.Lexeme.{Between, Found, Bad}
-use Rattle.ddl_tokens_dm.specs.Tokens.{AreTokens, AreTokensOf, StandsBetween, StandsToken, doubled, unmarked}
+use Rattle.ddl_tokens_dm.specs.Tokens.{AreTokensOf, StandsBetween, StandsToken, doubled, unmarked}
 use Rattle.ddl_tokens_dm.specs.Tokens.Consists.{nothing, between, token}
 use Rattle.ddl_tokens_dm.proofs.Scans.{bad_is, between_is, token_is}
 use Rattle.ddl_tokens_dm.proofs.Unique.{only_tokens}
@@ -30,7 +30,7 @@ use Rattle.ddl_syntax_dm.specs.declared.file.SyntaxError.{SyntaxError}
 use Rattle.ddl_syntax_dm.specs.declared.file.SyntaxError.TheVariants as syntax
 use Rattle.ddl_syntax_dm.specs.Grammar.{file}
 use Rattle.ddl_syntax_dm.specs.Reading.{file_at}
-use Rattle.ddl_syntax_dm.specs.Answer.{IsFault, IsFile, IsRead, IsTold, is_bare_word, fault_told, whole_told}
+use Rattle.ddl_syntax_dm.specs.Answer.{IsFault, IsFile, IsRead, IsTold, is_bare_word, fault_told}
 use Rattle.ddl_syntax_dm.proofs.StatementReaders.{file_more, file_reads}
 use Rattle.ddl_syntax_dm.proofs.Telling.{fault_is_told, is_read, whole_is_told}
 use Rattle.ddl_dm.specs.declared.ddl.DdlError.{DdlError}

@@ -1,5 +1,5 @@
 -- What a file of bytes is answered: the schema that its statements declare, or its first fault.
-use Rattle.std.specs.Prelude.{◌≡◌, ℕ, ◌+◌, List, Some, None, Result, Ok, Err}
+use Rattle.std.specs.Prelude.{◌≡◌, ◌≢◌, ℕ, ◌+◌, List, Some, None, Result, Ok, Err}
 use Rattle.schema_dm.specs.declared.table.Table.{Table}
 use Rattle.schema_dm.specs.declared.refusal.SchemaError.{SchemaError}
 use Rattle.schema_dm.specs.declared.refusal.SchemaFault.{SchemaFault}
@@ -52,11 +52,13 @@ IsDdlFault bytes (UnknownType place) = IsFault bytes (syntax.UnknownType place)
 IsDdlFault bytes (AlterUnknown number) = (statements : List Statement) × IsFile bytes statements × IsUnknownAlter statements number
 IsDdlFault bytes (Schema error) = (statements : List Statement) × IsFile bytes statements × AreRefused statements error
 
--- The only tables of the bytes, or else their first fault, unless memory ran out.
+-- The only tables of the bytes, or else their only first fault, unless memory ran out.
 abbrev pub IsSchemaRead : List ℕ → Result (List Table) DdlError → Type 0
-IsSchemaRead bytes (Ok tables) = IsDdl bytes tables × ((others : List Table) → IsDdl bytes others → others ≡ tables)
+IsSchemaRead bytes (Ok tables) =
+    IsDdl bytes tables × ((others : List Table) → IsDdl bytes others → others ≡ tables) × ((fault : DdlError) → fault ≢ Memory → ¬ IsDdlFault bytes fault)
 IsSchemaRead bytes (Err Memory) = Unit {0}
-IsSchemaRead bytes (Err fault) = IsDdlFault bytes fault × ((tables : List Table) → IsDdl bytes tables → ⊥)
+IsSchemaRead bytes (Err fault) =
+    IsDdlFault bytes fault × ((tables : List Table) → ¬ IsDdl bytes tables) × ((other : DdlError) → other ≢ Memory → IsDdlFault bytes other → other ≡ fault)
 
 -- ---- how faults are told
 

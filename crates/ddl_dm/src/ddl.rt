@@ -1,7 +1,7 @@
 ghost use Rattle.std.specs.Prelude.{◌≡◌};
 ghost use Rattle.ddl_dm.specs.Schema.{IsDeclared, IsSchemaRead};
 
-use crate::drafts::{drafts_of, unknown_alter};
+use crate::drafts::{created, drafts_of, unknown_alter};
 use ddl_syntax_dm::{Statement, SyntaxError, read_statements};
 use schema_dm::{Schema, SchemaError, SchemaFault};
 use std::alloc::{AllocError, Global};
@@ -79,11 +79,12 @@ impl From<AllocError> for DdlError {
 fn declared(alloc: Global, statements: &[Statement]) -> Result<Schema, DdlError>
     ensures { IsDeclared statements.now result }
 {
-    match unknown_alter(statements) {
+    let created = created(alloc, statements)?;
+    match unknown_alter(&created, statements) {
         None => {}
         Some(place) => return Err(DdlError::AlterUnknown(place as u64 + 1)),
     }
-    let drafts = drafts_of(alloc, statements)?;
+    let drafts = drafts_of(alloc, &created, statements)?;
     Ok(Schema::new(alloc, drafts)?)
 }
 

@@ -1,13 +1,13 @@
 // The drafts of tables that statements declare.
-ghost use Rattle.std.specs.Prelude.{◌≡◌, ◌++◌, [], ◌∷◌, IfOk, OnOk};
+ghost use Rattle.std.specs.Prelude.{◌≡◌, ◌++◌, ◌<◌, [], ◌∷◌, IfOk, List, OnOk, length, map, slice_index_or, slice_set};
 ghost use Rattle.std.specs.List.{flat_map, list_any};
-ghost use Rattle.ddl_dm.specs.Meaning.{kind_of, is_not_null, column_of, item_columns, constraint_keys, item_keys, foreign_draft, draft_with, creates, is_created, altered_keys, added_keys, draft_of, drafts_at, drafts_of, alters_unknown, unknown_alter};
-ghost use Rattle.ddl_dm.specs.Building.{extended};
+ghost use Rattle.ddl_dm.specs.Meaning.{kind_of, is_not_null, column_of, item_columns, constraint_keys, item_keys, foreign_draft, draft_with, drafts_of, alters_unknown, unknown_alter};
+ghost use Rattle.ddl_dm.specs.Building.{altered, created_name, created_names, extended, own_draft, own_drafts};
+ghost use Rattle.schema_dm.specs.declared.draft.TableDraft.{TableDraft as Draft};
+ghost use Rattle.ddl_syntax_dm.specs.declared.syntax.Statement.{Statement as TheStatement};
 
-use ddl_syntax_dm::{
-    AlterTable, Column, ColumnType, Constraint, CreateTable, Item, Key, Statement, Target,
-};
-use schema_dm::{Columns, Drafts, ForeignDraft, ForeignDrafts, NameLists, TableDraft};
+use ddl_syntax_dm::{Column, ColumnType, Constraint, CreateTable, Item, Key, Statement, Target};
+use schema_dm::{Columns, Drafts, ForeignDraft, ForeignDrafts, Index, NameLists, TableDraft};
 use std::alloc::{AllocError, Global};
 use value_dm::{Kind, Names, Text, TryCopy};
 
@@ -165,83 +165,6 @@ fn add_items(alloc: Global, draft: &mut TableDraft, items: &[Item]) -> Result<()
     Ok(())
 }
 
-#[tactic(auto, using(crate::proofs::Growth::extended_by_nothing))]
-fn add_altered(
-    alloc: Global,
-    draft: &mut TableDraft,
-    name: &Text,
-    alter: &AlterTable,
-) -> Result<(), AllocError>
-    ensures { OnOk result (draft.new ≡ extended draft.old [] (altered_keys name.now (Statement.Alter alter.now))) }
-{
-    if alter.name == *name {
-        add_key(alloc, draft, &alter.key)
-    } else {
-        Ok(())
-    }
-}
-
-#[tactic(auto, using(crate::proofs::Growth::extended_by_nothing))]
-fn add_statement(
-    alloc: Global,
-    draft: &mut TableDraft,
-    name: &Text,
-    statement: &Statement,
-) -> Result<(), AllocError>
-    ensures { OnOk result (draft.new ≡ extended draft.old [] (altered_keys name.now statement.now)) }
-{
-    match statement {
-        Statement::Create(_) => Ok(()),
-        Statement::Alter(alter) => add_altered(alloc, draft, name, alter),
-    }
-}
-
-fn add_statements(
-    alloc: Global,
-    draft: &mut TableDraft,
-    name: &Text,
-    statements: &[Statement],
-) -> Result<(), AllocError>
-    ensures { OnOk result (draft.new ≡ extended draft.old [] (flat_map (altered_keys name.now) statements.now)) }
-{
-    for statement in statements {
-        add_statement(alloc, draft, name, statement)?;
-    }
-    Ok(())
-}
-
-fn creates(name: &Text, statement: &Statement) -> bool
-    ensures { result ≡ creates name.now statement.now }
-{
-    match statement {
-        Statement::Create(table) => table.name == *name,
-        Statement::Alter(_) => false,
-    }
-}
-
-fn is_created(statements: &[Statement], name: &Text) -> bool
-    ensures { result ≡ is_created statements.now name.now }
-{
-    statements.iter().any(|statement| creates(name, statement))
-}
-
-#[tactic(auto, using(crate::proofs::Growth::extended_by_nothing))]
-fn add_later(
-    alloc: Global,
-    draft: &mut TableDraft,
-    name: &Text,
-    statements: &[Statement],
-    earlier: &[Statement],
-) -> Result<(), AllocError>
-    ensures { OnOk result (draft.new ≡ extended draft.old [] (added_keys statements.now earlier.now name.now)) }
-{
-    if is_created(earlier, name) {
-        Ok(())
-    } else {
-        add_statements(alloc, draft, name, statements)
-    }
-}
-
 fn empty_draft(alloc: Global, name: &Text) -> Result<TableDraft, AllocError>
     ensures { IfOk result (λ draft. draft ≡ draft_with name.now [] []) }
 {
@@ -254,70 +177,155 @@ fn empty_draft(alloc: Global, name: &Text) -> Result<TableDraft, AllocError>
     })
 }
 
-fn draft_of(
-    alloc: Global,
-    statements: &[Statement],
-    earlier: &[Statement],
-    table: &CreateTable,
-) -> Result<TableDraft, AllocError>
-    ensures { IfOk result (λ draft. draft ≡ draft_of statements.now earlier.now table.now) }
+fn own_draft(alloc: Global, table: &CreateTable) -> Result<TableDraft, AllocError>
+    ensures { IfOk result (λ draft. draft ≡ own_draft table.now) }
 {
     let mut draft = empty_draft(alloc, &table.name)?;
     add_items(alloc, &mut draft, table.items.as_slice())?;
-    add_later(alloc, &mut draft, &table.name, statements, earlier)?;
     Ok(draft)
 }
 
-fn add_draft(
+fn add_own(
     alloc: Global,
-    drafts: &mut Drafts,
-    statements: &[Statement],
-    earlier: &[Statement],
+    drafts: &mut Vec<TableDraft>,
     statement: &Statement,
 ) -> Result<(), AllocError>
-    ensures { OnOk result (drafts.new ≡ drafts.old ++ drafts_at statements.now earlier.now statement.now) }
+    ensures { OnOk result (drafts.new.items ≡ drafts.old.items ++ own_drafts statement.now) }
 {
     match statement {
         Statement::Create(table) => {
-            drafts.push(draft_of(alloc, statements, earlier, table)?)?;
+            drafts.push(own_draft(alloc, table)?)?;
             Ok(())
         }
         Statement::Alter(_) => Ok(()),
     }
 }
 
-/// A draft for each CREATE TABLE, in the order of the text, with the keys that ALTERs add behind its own; an
-/// ALTER belongs to the first CREATE of its name. Refused for want of memory alone.
-pub(crate) fn drafts_of(alloc: Global, statements: &[Statement]) -> Result<Drafts, AllocError>
-    ensures { IfOk result (λ drafts. drafts ≡ drafts_of statements.now) }
+// A draft for each CREATE TABLE, without the keys of ALTERs.
+fn own_drafts(alloc: Global, statements: &[Statement]) -> Result<Vec<TableDraft>, AllocError>
+    ensures { IfOk result (λ drafts. drafts.items ≡ flat_map own_drafts statements.now) }
 {
-    let mut drafts = Drafts::new(alloc);
-    for place in 0..statements.len() {
-        add_draft(
-            alloc,
-            &mut drafts,
-            statements,
-            &statements[..place],
-            &statements[place],
-        )?;
+    let mut drafts = Vec::new(alloc);
+    for statement in statements {
+        add_own(alloc, &mut drafts, statement)?;
     }
     Ok(drafts)
 }
 
-fn alters_unknown(statements: &[Statement], statement: &Statement) -> bool
-    ensures { result ≡ alters_unknown statements.now statement.now }
+fn add_key_at(
+    alloc: Global,
+    drafts: &mut Vec<TableDraft>,
+    number: usize,
+    key: &Key,
+) -> Result<(), AllocError>
+    requires { number < length drafts.old.items }
+    ensures { (d : Draft) → OnOk result (drafts.new.items ≡ slice_set drafts.old.items number (extended (slice_index_or drafts.old.items number d) [] (key.now ∷ []))) }
+{
+    let draft = &mut drafts[number];
+    add_key(alloc, draft, key)
+}
+
+// Adds the key of an ALTER to the first draft of its name.
+fn add_altered(
+    alloc: Global,
+    created: &Index<Text>,
+    drafts: &mut Vec<TableDraft>,
+    statement: &Statement,
+) -> Result<(), AllocError>
+    requires { created.now ≡ map (λ draft. draft.name) drafts.old.items }
+    ensures { OnOk result (drafts.new.items ≡ altered drafts.old.items statement.now) }
+{
+    match statement {
+        Statement::Create(_) => Ok(()),
+        Statement::Alter(alter) => match created.place(&alter.name) {
+            None => Ok(()),
+            Some(number) => add_key_at(alloc, drafts, number, &alter.key),
+        },
+    }
+}
+
+fn add_all_altered(
+    alloc: Global,
+    created: &Index<Text>,
+    drafts: &mut Vec<TableDraft>,
+    statements: &[Statement],
+) -> Result<(), AllocError>
+    requires created { created.now ≡ created_names statements.now }
+    requires own { drafts.old.items ≡ flat_map own_drafts statements.now }
+    ensures { OnOk result (drafts.new.items ≡ drafts_of statements.now) }
+{
+    for statement in statements {
+        add_altered(alloc, created, drafts, statement)?;
+    }
+    Ok(())
+}
+
+/// A draft for each CREATE TABLE, in the order of the text, with the keys that ALTERs add behind its own; an
+/// ALTER belongs to the first CREATE of its name. Refused for want of memory alone.
+pub(crate) fn drafts_of(
+    alloc: Global,
+    created: &Index<Text>,
+    statements: &[Statement],
+) -> Result<Drafts, AllocError>
+    requires { created.now ≡ created_names statements.now }
+    ensures { IfOk result (λ drafts. drafts ≡ drafts_of statements.now) }
+{
+    let mut drafts = own_drafts(alloc, statements)?;
+    add_all_altered(alloc, created, &mut drafts, statements)?;
+    Ok(Drafts::from_vec(drafts))
+}
+
+fn push_created(
+    alloc: Global,
+    names: &mut Vec<Text>,
+    statement: &Statement,
+) -> Result<(), AllocError>
+    ensures { OnOk result (names.new.items ≡ names.old.items ++ created_name statement.now) }
+{
+    match statement {
+        Statement::Create(table) => {
+            names.push(table.name.copy(alloc)?)?;
+            Ok(())
+        }
+        Statement::Alter(_) => Ok(()),
+    }
+}
+
+fn created_names(alloc: Global, statements: &[Statement]) -> Result<Vec<Text>, AllocError>
+    ensures { IfOk result (λ names. names.items ≡ created_names statements.now) }
+{
+    let mut names = Vec::new(alloc);
+    for statement in statements {
+        push_created(alloc, &mut names, statement)?;
+    }
+    Ok(names)
+}
+
+/// The names of the CREATE TABLEs, in the order of the text. Refused for want of memory alone.
+pub(crate) fn created(alloc: Global, statements: &[Statement]) -> Result<Index<Text>, AllocError>
+    ensures { IfOk result (λ names. names ≡ created_names statements.now) }
+{
+    Index::new(alloc, created_names(alloc, statements)?)
+}
+
+fn alters_unknown(created: &Index<Text>, statement: &Statement) -> bool
+    ensures { (statements : List TheStatement) → created.now ≡ created_names statements → result ≡ alters_unknown statements statement.now }
 {
     match statement {
         Statement::Create(_) => false,
-        Statement::Alter(table) => !is_created(statements, &table.name),
+        Statement::Alter(table) => match created.place(&table.name) {
+            None => true,
+            Some(_) => false,
+        },
     }
 }
 
 /// The place of the first ALTER of a table that no statement creates, counted from 0.
-pub(crate) fn unknown_alter(statements: &[Statement]) -> Option<usize>
+pub(crate) fn unknown_alter(created: &Index<Text>, statements: &[Statement]) -> Option<usize>
+    requires { created.now ≡ created_names statements.now }
     ensures { result ≡ unknown_alter statements.now }
 {
     statements
         .iter()
-        .position(|statement| alters_unknown(statements, statement))
+        .position(|statement| alters_unknown(created, statement))
 }

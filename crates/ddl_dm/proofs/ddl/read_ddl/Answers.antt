@@ -13,5 +13,5 @@ returns-in_err-statements c =
 pub returns : goal.returns
 returns c =
     let P : List Statement → Type 0 = λ statements. IsDeclared statements c.declared.result in
-    is_schema_read c.args.bytes.now c.in_ok-statements.statements c.declared.result c.in_ok-statements.ensures.0 c.in_ok-statements.ensures.1
+    is_schema_read c.args.bytes.now c.in_ok-statements.statements c.declared.result c.in_ok-statements.ensures.0
     (subst P c.as_slice.ensures c.declared.ensures)
