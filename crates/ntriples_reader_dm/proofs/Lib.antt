@@ -1,0 +1,11 @@
+pub mod Behind
+pub mod Cuts
+pub mod Exact
+pub mod Labels
+pub mod Longest
+pub mod ReadBack
+pub mod Readers
+pub mod Scans
+pub mod Tags
+pub mod Triples
+pub mod Written
