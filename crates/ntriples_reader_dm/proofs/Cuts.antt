@@ -7,6 +7,7 @@ use Rattle.std.proofs.lemmas.List.{append-nil}
 use Rattle.std.proofs.lemmas.List.Quantifiers.{position-Some}
 use Rattle.names_dm.specs.Statements.{Statement}
 use Rattle.ntriples_reader_dm.specs.Lines.{is_end, into_first, lines, behind_end}
+use Rattle.ntriples_reader_dm.specs.Answer.{HasTooManyTriples, IsFirstBadLine}
 use Rattle.ntriples_reader_dm.specs.Document.{AreTriples, limit}
 use Rattle.ntriples_reader_dm.specs.Grammar.{IsLine}
 use Rattle.ntriples_reader_dm.proofs.Exact.{none_some, true_false}
@@ -97,16 +98,29 @@ so_far_more bytes ts us n rest text behind x s e i u small = record {
 }
 
 pub too_many : (bytes : List ℕ) (ts : List Statement) (n : ℕ) (rest text behind : List ℕ) (t : Statement) → AreSoFar bytes ts n rest → lines rest ≡ text ∷ lines behind → IsLine text (Some t)
-    → length ts ≡ limit → (front others : List (List ℕ)) × (triples : List Statement) × (lines bytes ≡ front ++ others) × AreTriples front triples × (limit < length triples)
-too_many bytes ts n rest text behind t s e i full =
-    (s.front ++ text ∷ [], lines behind, ts ++ t ∷ [], s.whole ∙ ap (λ (ls : List (List ℕ)). s.front ++ ls) e ∙ sym (append_assoc s.front (text ∷ []) (lines behind)),
-    one_more_line s.front ts text (Some t) s.says i, simp length-append (omega (arith, full)))
+    → length ts ≡ limit → HasTooManyTriples bytes
+too_many bytes ts n rest text behind t s e i full = record {
+  front = s.front ++ text ∷ [];
+  rest = lines behind;
+  triples = ts ++ t ∷ [];
+  whole = s.whole ∙ ap (λ (ls : List (List ℕ)). s.front ++ ls) e ∙ sym (append_assoc s.front (text ∷ []) (lines behind));
+  says = one_more_line s.front ts text (Some t) s.says i;
+  above = simp length-append (omega (arith, full));
+}
 
 pub bad_line : (bytes : List ℕ) (ts : List Statement) (n : ℕ) (rest text behind : List ℕ) → AreSoFar bytes ts n rest → lines rest ≡ text ∷ lines behind → ((x : Option Statement) → IsLine text x → ⊥)
-    → (front : List (List ℕ)) × (bad : List ℕ) × (others : List (List ℕ)) × (triples : List Statement) × (lines bytes ≡ front ++ bad ∷ others) × AreTriples front triples × (length triples ≤ limit)
-    × ((x : Option Statement) → IsLine bad x → ⊥) × (n + 1 ≡ length front + 1)
-bad_line bytes ts n rest text behind s e never =
-    (s.front, text, lines behind, ts, s.whole ∙ ap (λ (ls : List (List ℕ)). s.front ++ ls) e, s.says, s.within, never, ap (λ (m : ℕ). m + 1) s.counted)
+    → IsFirstBadLine bytes (n + 1)
+bad_line bytes ts n rest text behind s e never = record {
+  front = s.front;
+  bad = text;
+  rest = lines behind;
+  triples = ts;
+  whole = s.whole ∙ ap (λ (ls : List (List ℕ)). s.front ++ ls) e;
+  says = s.says;
+  within = s.within;
+  never = never;
+  counted = ap (λ (m : ℕ). m + 1) s.counted;
+}
 
 pub all_read : (bytes : List ℕ) (ts : List Statement) (n : ℕ) (rest : List ℕ) → AreSoFar bytes ts n rest → lines rest ≡ [] → AreTriples (lines bytes) ts × (length ts ≤ limit)
 all_read bytes ts n rest s e = (subst (λ (ls : List (List ℕ)). AreTriples ls ts) (sym (s.whole ∙ ap (λ (ls : List (List ℕ)). s.front ++ ls) e ∙ append-nil s.front)) s.says, s.within)

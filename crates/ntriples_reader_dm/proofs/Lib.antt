@@ -3,6 +3,7 @@ pub mod Cuts
 pub mod Exact
 pub mod Labels
 pub mod Longest
+pub mod OneAnswer
 pub mod ReadBack
 pub mod Readers
 pub mod Scans

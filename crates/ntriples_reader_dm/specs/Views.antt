@@ -66,16 +66,6 @@ IsLineAnswer bytes (Ok x) = IsLine bytes x
 IsLineAnswer bytes (Err Memory) = Unit {0}
 IsLineAnswer bytes (Err Bad) = (x : Option Statement) → IsLine bytes x → ⊥
 
--- the answer to a document
-abbrev pub IsAnswer : List ℕ → Result (List Statement) GraphError → Type 0
-IsAnswer bytes (Ok triples) = IsDocument bytes triples × (length triples ≤ limit)
-IsAnswer bytes (Err (errors.BadLine n)) =
-    (front : List (List ℕ)) × (bad : List ℕ) × (rest : List (List ℕ)) × (triples : List Statement) × (lines bytes ≡ front ++ bad ∷ rest)
-    × AreTriples front triples × (length triples ≤ limit) × ((x : Option Statement) → IsLine bad x → ⊥) × (n ≡ length front + 1)
-IsAnswer bytes (Err errors.TooManyTriples) =
-    (front rest : List (List ℕ)) × (triples : List Statement) × (lines bytes ≡ front ++ rest) × AreTriples front triples × (limit < length triples)
-IsAnswer bytes (Err errors.Memory) = Unit {0}
-
 -- the sets are those of the two kinds
 pub record AreClasses (classes : Classes) : Type 0 where
   pub iri : (x : ℕ) → has_byte classes.iri x ≡ special kinds.Iri x

@@ -1,4 +1,6 @@
 use std::alloc::AllocError;
+use std::convert::From;
+use thiserror::Error;
 use value_dm::AllocFailed;
 
 /// Why a part of a line gave no value.
@@ -21,14 +23,17 @@ impl From<AllocError> for LineFault {
     }
 }
 
-/// Why a document gave no triples.
-#[derive(Debug, Drop)]
+/// Why a document has no triples. Lines are counted from 1.
+#[derive(Clone, Copy, Debug, PartialEq, Eq, Error)]
 pub enum GraphError {
-    /// The line with this number, from 1, is the first that isn't in the grammar.
+    /// The line of this number is the first that isn't in the grammar.
+    #[error("no triple, comment or empty line in line {0}")]
     BadLine(u64),
     /// There are more than 16,777,216 triples before the first such line.
+    #[error("too many triples")]
     TooManyTriples,
-    /// Memory ran out.
+    /// There was no memory.
+    #[error("out of memory")]
     Memory,
 }
 

@@ -196,7 +196,7 @@ fn escaped<'a>(
     'inside: while let Some((front, c, behind)) = until(rest, class) {
         push_text(&mut out, front)?;
         if c == close {
-            return Ok((Text::from_str(alloc, out.as_str())?, behind));
+            return Ok((Text::from_string(out), behind));
         }
         if c != '\\' {
             return Err(LineFault::Bad);

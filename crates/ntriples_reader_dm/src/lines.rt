@@ -1,17 +1,23 @@
 // The lines of a document.
-ghost use Rattle.std.specs.Prelude.{◌≡◌, ◌<◌, [], ◌∷◌, ℕ, length, MatchOption, IfSome, drop};
+ghost use Rattle.std.specs.Prelude.{◌≡◌, ◌<◌, ◌≤◌, [], ◌∷◌, ℕ, List, length, All, MatchOption, IfSome, drop};
+ghost use Rattle.std.specs.List.{flat_map};
 ghost use Rattle.lanes_dm.specs.ByteSet.{has_byte};
 ghost use Rattle.ntriples_reader_dm.specs.Lines.{is_end, lines, behind_end};
-ghost use Rattle.ntriples_reader_dm.specs.Views.{IsAnswer, AreClasses};
+ghost use Rattle.names_dm.specs.Statements.{Statement};
+ghost use Rattle.ntriples_dm.specs.Written.{triple_text};
+ghost use Rattle.ntriples_reader_dm.specs.Answer.{IsAnswer, HasOneAnswer, GivesBack};
+ghost use Rattle.ntriples_reader_dm.specs.Document.{limit};
+ghost use Rattle.ntriples_reader_dm.specs.Lawful.{IsLawful};
+ghost use Rattle.ntriples_reader_dm.specs.Views.{AreClasses};
 
 use crate::classes::{Classes, end_class, iri_class, quoted_class};
 use crate::fault::{GraphError, LineFault};
 use crate::line::line;
 use lanes_dm::{ByteClass, first_of};
-use names_dm::Triple;
+use names_dm::Triples;
 use std::alloc::Global;
-use value_dm::Sequence;
 
+// The most triples of a document.
 const LIMIT: usize = 16_777_216;
 
 // What stands behind the end of a line at this place.
@@ -44,8 +50,8 @@ fn first_line<'a>(bytes: &'a [u8], class: &ByteClass) -> Option<(&'a [u8], &'a [
     }
 }
 
-/// The triples of the lines in order.
-pub fn read_graph(alloc: Global, bytes: &[u8]) -> Result<Sequence<Triple>, GraphError>
+// The triples of the lines in order.
+fn read_lines(alloc: Global, bytes: &[u8]) -> Result<Triples, GraphError>
     ensures { IsAnswer bytes.now result }
 {
     let classes = Classes {
@@ -53,7 +59,7 @@ pub fn read_graph(alloc: Global, bytes: &[u8]) -> Result<Sequence<Triple>, Graph
         quoted: quoted_class(),
     };
     let ends = end_class();
-    let mut triples = Sequence::new(alloc);
+    let mut triples = Triples::new(alloc);
     let mut number = 0;
     let mut rest = bytes;
     'lines: while let Some((text, behind)) = first_line(rest, &ends) {
@@ -72,4 +78,19 @@ pub fn read_graph(alloc: Global, bytes: &[u8]) -> Result<Sequence<Triple>, Graph
         rest = behind;
     }
     Ok(triples)
+}
+
+/// The triples of a document (RDF 1.1 N-Triples, section 7), in the order of its lines. A line ends at CR LF, at LF, and at a
+/// CR that no LF follows; each has a triple, a comment or neither. Repeated triples are kept. There is one right answer:
+///
+/// - `BadLine` exactly where a line isn't in the grammar, as for bytes that aren't UTF-8, and the lines before the first such
+///   line have at most 16,777,216 triples. It is that line's number.
+/// - `TooManyTriples` exactly where the lines before the first bad one, or all, have more triples than that.
+/// - `Memory` for want of memory.
+pub fn read_graph(alloc: Global, bytes: &[u8]) -> Result<Triples, GraphError>
+    ensures answer { IsAnswer bytes.now result }
+    ensures one { HasOneAnswer bytes.now }
+    ensures written { (triples : List Statement) → All IsLawful triples → length triples ≤ limit → bytes.now ≡ flat_map triple_text triples → GivesBack triples result }
+{
+    read_lines(alloc, bytes)
 }

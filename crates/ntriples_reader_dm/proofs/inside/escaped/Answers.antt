@@ -19,7 +19,7 @@ returns-then-c-close-clause-seen c =
     let all = until_at (close_of c.args.kind) (one_of c.args.kind) (chars c.args.text.now) in
     let found = found_read c.args.class.now c.args.kind c.requires (chars (string_bytes c.inside.out)) (chars c.inside.rest.now) (chars c.in-Some.front.now) (chars c.in-Some.behind.now) c.in-Some.c all c.in-Some.ensures.found c.inside.invariant.0 in
     close_found c.args.kind (chars (string_bytes c.inside.out) ++ chars c.in-Some.front.now) (chars c.in-Some.behind.now) c.in-Some.c all found (c.if-c-close.true ∙ c.close_of-close.ensures)
-    ∙ ap (λ (us : List ℕ). Some (pair us (chars c.in-Some.behind.now))) (sym (c.in_ok-from_str.ensures.chars ∙ ap chars c.as_str.ensures.value ∙ c.in_ok-push_text.ensures))
+    ∙ ap (λ (us : List ℕ). Some (pair us (chars c.in-Some.behind.now))) (sym (c.from_string.ensures ∙ c.in_ok-push_text.ensures))
 
 pub returns-then-c-ne92-clause-seen : goal.returns-then-c-ne92-clause-seen
 returns-then-c-ne92-clause-seen c =

@@ -1,6 +1,6 @@
 use Rattle.std.proofs.Common.{◌≡◌, ◌≤◌, ◌+◌, length}
 use Rattle.ntriples_reader_dm.proofs.Cuts.{AreSoFar}
-use Rattle.ntriples_reader_dm.proofs.lines.read_graph.Given as goal
+use Rattle.ntriples_reader_dm.proofs.lines.read_lines.Given as goal
 
 abbrev pub invariant-lines : goal.invariant-lines
 invariant-lines l = AreSoFar l.bytes l.triples l.number l.rest × (l.number + length l.rest ≤ length l.bytes)
