@@ -1,7 +1,6 @@
 -- Where labels and tags end.
-use Rattle.std.proofs.Common.{◌≡◌, ◌∙◌, ℕ, zero, suc, ◌+◌, ◌-◌, ◌<◌, ◌≤◌, List, [], ◌∷◌, ◌++◌, length, take, drop, Bool, true, false, Option, Some, None, refl, sym, ap, subst, arith, inl, inr, append_assoc, length-append, chars}
+use Rattle.std.proofs.Common.{◌≡◌, ◌∙◌, ℕ, ◌-◌, ◌≤◌, List, [], ◌∷◌, ◌++◌, length, take, drop, Bool, true, false, Some, None, refl, sym, ap, subst, arith, inl, inr, length-append, chars}
 use Rattle.std.specs.Prelude.{◌==◌, ◌&&◌, if◌then◌else◌, encode_utf8_all, IsUtf8, IsCharBoundary}
-use Rattle.std.proofs.lemmas.Bool.{cases_Bool}
 use Rattle.std.proofs.lemmas.List.{take-append-drop, append-nil}
 use Rattle.std.proofs.lemmas.Str.{encodes-chars, encodes-append, chars-append, IsCharBoundary-at_seam, IsUtf8-take}
 use Rattle.names_dm.specs.Terminals.{begins_label, continues_label, is_letter_or_digit}

@@ -1,8 +1,8 @@
 -- Lines are cut off one by one.
-use Rattle.std.proofs.Common.{◌≡◌, ◌∙◌, ℕ, zero, suc, ◌+◌, ◌<◌, ◌≤◌, List, [], ◌∷◌, ◌++◌, length, take, drop, get_or, Bool, true, false, Option, Some, None, refl, sym, ap, subst, arith, inl, inr, ltb, append_assoc, length-append}
+use Rattle.std.proofs.Common.{◌≡◌, ◌∙◌, ℕ, zero, suc, ◌+◌, ◌<◌, ◌≤◌, List, [], ◌∷◌, ◌++◌, length, take, drop, get_or, Bool, true, false, Option, Some, None, refl, sym, ap, subst, arith, inl, inr, append_assoc, length-append}
 use Rattle.std.specs.Prelude.{◌==◌, ◌||◌, ◌&&◌, if◌then◌else◌, option_to_list, chars}
-use Rattle.std.specs.List.{position, position_or_len}
-use Rattle.std.proofs.lemmas.Bool.{cases_Bool, ltb-false}
+use Rattle.std.specs.List.{position}
+use Rattle.std.proofs.lemmas.Bool.{cases_Bool}
 use Rattle.std.proofs.lemmas.List.{append-nil}
 use Rattle.std.proofs.lemmas.List.Quantifiers.{position-Some}
 use Rattle.names_dm.specs.Statements.{Statement}
@@ -10,7 +10,7 @@ use Rattle.ntriples_reader_dm.specs.Lines.{is_end, into_first, lines, behind_end
 use Rattle.ntriples_reader_dm.specs.Answer.{HasTooManyTriples, IsFirstBadLine}
 use Rattle.ntriples_reader_dm.specs.Document.{AreTriples, limit}
 use Rattle.ntriples_reader_dm.specs.Grammar.{IsLine}
-use Rattle.ntriples_reader_dm.proofs.Exact.{none_some, true_false}
+use Rattle.ntriples_reader_dm.proofs.Exact.{true_false}
 use Rattle.ntriples_reader_dm.proofs.Scans.{none_at}
 use Rattle.ntriples_reader_dm.proofs.Triples.{line_one}
 

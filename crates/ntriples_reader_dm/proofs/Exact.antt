@@ -1,6 +1,6 @@
 -- A function that reads a part finds exactly what the part is: one lemma for each way to build parts.
-use Rattle.std.proofs.Common.{◌≡◌, ◌∙◌, ℕ, zero, suc, ◌+◌, ◌*◌, ◌<◌, ◌≤◌, List, [], ◌∷◌, ◌++◌, length, Bool, true, false, Option, Some, None, refl, sym, ap, subst, arith, inl, inr, ◌⊎◌, append_assoc, add-one}
-use Rattle.std.specs.Prelude.{◌==◌, ◌||◌, ◌&&◌, not, if◌then◌else◌}
+use Rattle.std.proofs.Common.{◌≡◌, ◌∙◌, ℕ, zero, suc, ◌+◌, ◌*◌, ◌<◌, ◌≤◌, List, [], ◌∷◌, ◌++◌, length, Bool, true, false, Option, Some, None, refl, sym, ap, subst, arith, inl, inr, ◌⊎◌}
+use Rattle.std.specs.Prelude.{◌==◌, ◌||◌, ◌&&◌, if◌then◌else◌}
 use Rattle.std.specs.List.{list_all}
 use Rattle.std.proofs.lemmas.Bool.{eqb-true, eq-eqb, cases_Bool}
 use Rattle.ntriples_reader_dm.specs.Characters.{is_blank, hex_value}
@@ -8,7 +8,7 @@ use Rattle.ntriples_reader_dm.specs.Part.{character, sign, valued, give, or, opt
 use Rattle.ntriples_reader_dm.specs.Part.Repeats.{no_repeat, one_more}
 use Rattle.ntriples_reader_dm.specs.Part as part
 use Rattle.ntriples_reader_dm.specs.Grammar.{blanks, hex_digits}
-use Rattle.ntriples_reader_dm.specs.Reading.{Read, ◌>>=◌, begins, behind, through, only, skip, valued_at, hex_at, with_first, until_within, until_at}
+use Rattle.ntriples_reader_dm.specs.Reading.{◌>>=◌, begins, behind, through, only, skip, valued_at, hex_at, with_first, until_within, until_at}
 
 pub record Exact {V : Type 0} (a : List ℕ → List ℕ → V → Type 0) (at : List ℕ → Option (V × List ℕ)) : Type 0 where
   pub sound : (ts rest : List ℕ) (v : V) → at ts ≡ Some (v, rest) → a ts rest v
@@ -238,7 +238,6 @@ until_sound close a one ea (suc n) (c ∷ ts) rest vs e = elim (cases_Bool (c ==
       let again = until_sound close a one ea n h.0.1 rest k.0.0 (k.1 ∙ ap (λ us. Some (pair k.0.0 us)) j.1) in
       (again.0, subst (λ (us : List ℕ). Repeats a (c ∷ ts) again.0 us) j.0 (one_more (ea.sound (c ∷ ts) h.0.1 h.0.0 h.1) again.1), again.2)
 ]
-
 
 abbrev pub IsUntil : ℕ → (List ℕ → Option (ℕ × List ℕ)) → List ℕ → List ℕ → List ℕ → Type 0
 IsUntil close one ts vs rest = (n : ℕ) → length ts ≤ n → until_within close one n ts ≡ Some (vs, rest)

@@ -1,12 +1,12 @@
 -- What is read as a label is the longest one.
-use Rattle.std.proofs.Common.{◌≡◌, ◌≢◌, ◌∙◌, ℕ, zero, suc, ◌+◌, ◌<◌, ◌≤◌, List, [], ◌∷◌, ◌++◌, length, Bool, true, false, Option, Some, None, refl, sym, ap, subst, arith, inl, inr, ◌⊎◌, append_assoc}
-use Rattle.std.specs.Prelude.{◌==◌, ◌||◌, ◌&&◌, not, if◌then◌else◌}
+use Rattle.std.proofs.Common.{◌≡◌, ◌∙◌, ℕ, List, [], ◌∷◌, ◌++◌, Bool, true, false, Option, Some, None, refl, sym, ap, subst, inl, inr}
+use Rattle.std.specs.Prelude.{◌==◌, ◌&&◌, not, if◌then◌else◌}
 use Rattle.std.specs.List.{list_all}
-use Rattle.std.proofs.lemmas.Bool.{eqb-true, eq-eqb, cases_Bool}
+use Rattle.std.proofs.lemmas.Bool.{eqb-true, cases_Bool}
 use Rattle.names_dm.specs.Terminals.{begins_label, continues_label, last_of, is_label}
 use Rattle.ntriples_reader_dm.specs.Part.{IsLongest, longest}
 use Rattle.ntriples_reader_dm.specs.Reading.{dotted, label_rest, label_text, with_more}
-use Rattle.ntriples_reader_dm.proofs.Exact.{Exact, none_some, some_is, pair, pair_is, true_false, both_of}
+use Rattle.ntriples_reader_dm.proofs.Exact.{Exact, none_some, pair, pair_is, true_false, both_of}
 use Rattle.ntriples_reader_dm.proofs.Longest.{longest_exact}
 
 abbrev pub is_dot : ℕ → Bool

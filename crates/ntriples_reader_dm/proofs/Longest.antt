@@ -1,13 +1,8 @@
 -- The longest label, and the longest tag.
-use Rattle.std.proofs.Common.{◌≡◌, ◌≢◌, ◌∙◌, ℕ, zero, suc, ◌+◌, ◌<◌, ◌≤◌, List, [], ◌∷◌, ◌++◌, length, Bool, true, false, Option, Some, None, refl, sym, ap, subst, arith, inl, inr, ◌⊎◌, append_assoc}
-use Rattle.std.specs.Prelude.{◌==◌, ◌||◌, ◌&&◌, not, if◌then◌else◌}
-use Rattle.std.specs.List.{list_all}
-use Rattle.std.proofs.lemmas.Bool.{eqb-true, eq-eqb, cases_Bool}
+use Rattle.std.proofs.Common.{◌≡◌, ◌∙◌, ℕ, List, [], ◌∷◌, ◌++◌, Bool, true, Option, Some, None, refl, sym, ap, inl, inr, ◌⊎◌}
 use Rattle.std.proofs.lemmas.List.{append-nil}
-use Rattle.names_dm.specs.Terminals.{begins_label, continues_label, last_of, is_label}
 use Rattle.ntriples_reader_dm.specs.Part.{IsLongest, longest}
-use Rattle.ntriples_reader_dm.specs.Reading.{dotted, label_rest, label_text, with_more}
-use Rattle.ntriples_reader_dm.proofs.Exact.{Exact, none_some, some_is, pair, pair_is, true_false, both_of}
+use Rattle.ntriples_reader_dm.proofs.Exact.{Exact, pair}
 
 -- of two fronts of one text one goes on where the other ends
 pub fronts : (a b c d : List ℕ) → a ++ b ≡ c ++ d → ((more : List ℕ) × (c ≡ a ++ more) × (b ≡ more ++ d)) ⊎ ((more : List ℕ) × (a ≡ c ++ more) × (d ≡ more ++ b))
@@ -51,4 +46,3 @@ longest_exact rule f finds none = record {
   sound = finds;
   complete = λ ts rest text p. found_here rule f finds none ts rest text p (f ts) refl;
 }
-

@@ -1,12 +1,12 @@
 -- A document has one answer alone.
-use Rattle.std.proofs.Common.{◌≡◌, ◌∙◌, ℕ, suc, ◌+◌, ◌≤◌, ◌<◌, List, [], ◌∷◌, ◌++◌, length, Option, Some, None, Result, Ok, Err, refl, sym, ap, subst, arith, append_assoc, length-append}
-use Rattle.std.specs.Prelude.{◌≢◌, All, chars, option_to_list}
+use Rattle.std.proofs.Common.{◌≡◌, ◌∙◌, ℕ, suc, ◌+◌, ◌≤◌, List, [], ◌∷◌, ◌++◌, length, Option, Result, Ok, Err, refl, sym, ap, subst, arith, append_assoc, length-append}
+use Rattle.std.specs.Prelude.{All, chars, option_to_list}
 use Rattle.std.specs.List.{flat_map}
 use Rattle.names_dm.specs.Statements.{Statement}
 use Rattle.ntriples_dm.specs.Written.{triple_text}
 use Rattle.ntriples_reader_dm.specs.declared.fault.GraphError.{GraphError}
 use Rattle.ntriples_reader_dm.specs.declared.fault.GraphError.TheVariants.{BadLine, TooManyTriples, Memory}
-use Rattle.ntriples_reader_dm.specs.Answer.{IsAnswer, IsFirstBadLine, HasTooManyTriples, HasOneAnswer, GivesBack}
+use Rattle.ntriples_reader_dm.specs.Answer.{IsAnswer, HasOneAnswer, GivesBack}
 use Rattle.ntriples_reader_dm.specs.Document.{AreTriples, IsDocument, limit}
 use Rattle.ntriples_reader_dm.specs.Grammar.{IsLine}
 use Rattle.ntriples_reader_dm.specs.Lawful.{IsLawful}

@@ -1,6 +1,6 @@
 -- A text of triples is a document of these triples.
-use Rattle.std.proofs.Common.{◌≡◌, ◌∙◌, ℕ, zero, suc, ◌<◌, List, [], ◌∷◌, ◌++◌, length, get_or, Bool, true, false, Option, Some, None, refl, sym, ap, subst, arith, inl, inr, append_assoc, encode_utf8_all, chars}
-use Rattle.std.specs.Prelude.{◌==◌, ◌||◌, ◌&&◌, not, if◌then◌else◌, IsUtf8, All, codes}
+use Rattle.std.proofs.Common.{◌≡◌, ◌∙◌, ℕ, suc, List, [], ◌∷◌, ◌++◌, get_or, Bool, true, false, Some, refl, sym, ap, subst, arith, inl, inr, append_assoc, encode_utf8_all}
+use Rattle.std.specs.Prelude.{◌==◌, ◌||◌, ◌&&◌, not, All}
 use Rattle.std.specs.Char.{encode_utf8}
 use Rattle.std.specs.List.{list_all, list_any, flat_map}
 use Rattle.std.specs.Str.{all_scalars}
@@ -21,7 +21,7 @@ use Rattle.names_dm.proofs.Words.{rest_is_tag, is_tag-from_loop}
 use Rattle.ntriples_dm.specs.Written.{escaped, iri_text, quoted_text, type_text, term_text, triple_text}
 use Rattle.ntriples_reader_dm.specs.Document.{AreTriples, IsDocument}
 use Rattle.ntriples_reader_dm.specs.Grammar.{IsLine, line}
-use Rattle.ntriples_reader_dm.specs.Lawful.{IsIri, IsLabel, IsTag, IsLawfulType, IsLawfulNode, IsLawfulTerm, IsLawful}
+use Rattle.ntriples_reader_dm.specs.Lawful.{IsIri, IsLawfulType, IsLawfulNode, IsLawfulTerm, IsLawful}
 use Rattle.ntriples_reader_dm.specs.Lines.{is_end, into_first, lines}
 use Rattle.ntriples_reader_dm.specs.WrittenLine.{iri_chars, type_chars, term_chars, line_chars}
 use Rattle.value_dm.specs.Texts.{IsText}
@@ -143,7 +143,7 @@ tag_rest_no_end first empty [] e = refl
 tag_rest_no_end first empty (c ∷ cs) e =
     let h = both_of (in_tag first empty c) (rest_is_tag (first && not (c == 45)) (c == 45) cs) e in
     and_true (not (is_end c)) (list_all (λ c. not (is_end c)) cs) (ap not (no_end_at (in_tag first empty) (in_tag_keeps first empty) c h.0))
-      (tag_rest_no_end (first && not (c == 45)) (c == 45) cs h.1)
+    (tag_rest_no_end (first && not (c == 45)) (c == 45) cs h.1)
 
 tag_no_end : (tag : List ℕ) → is_tag tag ≡ true → NoEnd tag
 tag_no_end tag e = tag_rest_no_end true true tag (is_tag-from_loop tag ∙ e)
@@ -189,7 +189,7 @@ node_is_term (term.Literal v) h = absurd h
 line_no_end : (t : Statement) → IsLawful t → NoEnd (line_chars t)
 line_no_end t h =
     term_chars_no_end t.subject (32 ∷ iri_chars t.predicate (32 ∷ term_chars t.object (32 ∷ 46 ∷ []))) (node_is_term t.subject h.subject)
-      (iri_chars_no_end t.predicate (32 ∷ term_chars t.object (32 ∷ 46 ∷ [])) h.predicate.0 (term_chars_no_end t.object (32 ∷ 46 ∷ []) h.object refl))
+    (iri_chars_no_end t.predicate (32 ∷ term_chars t.object (32 ∷ 46 ∷ [])) h.predicate.0 (term_chars_no_end t.object (32 ∷ 46 ∷ []) h.object refl))
 
 -- ---- and so no byte
 
@@ -257,7 +257,7 @@ term_scalars (term.Literal v) rest h f = scalars_both (flat_map escaped v.text) 
 line_scalars : (t : Statement) → IsLawful t → IsText (line_chars t)
 line_scalars t h =
     term_scalars t.subject (32 ∷ iri_chars t.predicate (32 ∷ term_chars t.object (32 ∷ 46 ∷ []))) (node_is_term t.subject h.subject)
-      (iri_scalars t.predicate (32 ∷ term_chars t.object (32 ∷ 46 ∷ [])) h.predicate (term_scalars t.object (32 ∷ 46 ∷ []) h.object refl))
+    (iri_scalars t.predicate (32 ∷ term_chars t.object (32 ∷ 46 ∷ [])) h.predicate (term_scalars t.object (32 ∷ 46 ∷ []) h.object refl))
 
 -- ---- lines and documents
 
@@ -284,4 +284,4 @@ unfolding lines
 text_reads_back [] h = refl
 text_reads_back (t ∷ ts) h =
     subst (λ (ls : List (List ℕ)). AreTriples ls (t ∷ ts)) (sym (text_lines t (flat_map triple_text ts) (h 0 t (omega arith))))
-      (Some t, ts, line_of t (h 0 t (omega arith)), text_reads_back ts (λ k d below. h (suc k) d (omega arith)), refl)
+    (Some t, ts, line_of t (h 0 t (omega arith)), text_reads_back ts (λ k d below. h (suc k) d (omega arith)), refl)

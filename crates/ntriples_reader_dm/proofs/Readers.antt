@@ -1,23 +1,20 @@
 -- Each part of a line is read exactly.
-use Rattle.std.proofs.Common.{◌≡◌, ◌∙◌, ℕ, zero, suc, ◌+◌, ◌*◌, ◌<◌, ◌≤◌, List, [], ◌∷◌, ◌++◌, length, Bool, true, false, Option, Some, None, refl, sym, ap, subst, arith, inl, inr, ◌⊎◌}
-use Rattle.std.specs.Prelude.{◌==◌, ◌||◌, ◌&&◌, not, if◌then◌else◌}
-use Rattle.std.proofs.lemmas.Bool.{eqb-true, eq-eqb, cases_Bool}
-use Rattle.names_dm.specs.Literals.{literal_of}
-use Rattle.names_dm.specs.Statements.{Statement, is_literal}
+use Rattle.std.proofs.Common.{◌≡◌, ◌∙◌, ℕ, zero, suc, ◌+◌, ◌*◌, ◌<◌, ◌≤◌, List, [], ◌∷◌, length, Bool, true, false, Option, Some, None, refl, sym, ap, arith, inl, inr, ◌⊎◌}
+use Rattle.std.specs.Prelude.{◌==◌, ◌||◌, not, if◌then◌else◌}
+use Rattle.std.proofs.lemmas.Bool.{eqb-true, cases_Bool}
+use Rattle.names_dm.specs.Statements.{is_literal}
 use Rattle.std.specs.List.{list_any}
 use Rattle.ntriples_reader_dm.specs.Part.Repeats.{no_repeat, one_more}
 use Rattle.names_dm.specs.Terminals.{is_forbidden, is_iri, is_label, is_tag}
-use Rattle.names_dm.specs.declared.literal.LiteralType.{LiteralType}
-use Rattle.names_dm.specs.declared.literal.LiteralType.TheVariants.{Plain, Typed, Tagged}
 use Rattle.names_dm.specs.declared.term.Term.{Term}
 use Rattle.names_dm.specs.declared.term.Term.TheVariants as term
 use Rattle.ntriples_dm.specs.Written.{is_escaped}
-use Rattle.ntriples_reader_dm.specs.Characters.{is_blank, is_scalar, hex_value, escape_value}
+use Rattle.ntriples_reader_dm.specs.Characters.{is_scalar, escape_value}
 use Rattle.ntriples_reader_dm.specs.Part.{character, sign, valued, give, or, optional, passing, Repeats, repeated, some_of, longest, the_rest}
 use Rattle.ntriples_reader_dm.specs.Part as part
-use Rattle.ntriples_reader_dm.specs.Grammar.{blanks, hex_digits, code_point, uchar, echar, iri_character, iri_ref, text_character, quoted, label, tag, literal_type, literal, subject, object, triple, comment, line}
-use Rattle.ntriples_reader_dm.specs.Reading.{◌>>=◌, begins, behind, through, only, skip, valued_at, hex_at, number_behind, iri_one, text_one, until_at, iri_at, quoted_at, label_text, label_at, tag_text, tag_at, typed_at, tagged_at, type_at, literal_at, subject_at, object_at, triple_at, ended, said, line_at}
-use Rattle.ntriples_reader_dm.proofs.Exact.{Exact, none_some, some_is, pair, pair_is, bind_some, bind_is, true_false, both_of, behind_is, give_exact, then_exact, sign_then, valued_exact, through_exact, passing_exact, hex_exact, Heads, Lacks, begins_is, lacking, sign_heads, chosen, or_exact, Unblank, unblank, skip_run, skip_stands, skip_blanks, skip_read, skip_twice, blanks_then, Takes, until_exact, until_sound}
+use Rattle.ntriples_reader_dm.specs.Grammar.{hex_digits, code_point, uchar, echar, iri_character, iri_ref, text_character, quoted, label, tag, subject}
+use Rattle.ntriples_reader_dm.specs.Reading.{◌>>=◌, begins, behind, through, only, valued_at, hex_at, number_behind, iri_one, text_one, until_at, iri_at, quoted_at, label_text, label_at, tag_text, tag_at, subject_at}
+use Rattle.ntriples_reader_dm.proofs.Exact.{Exact, none_some, pair, pair_is, bind_some, true_false, sign_then, valued_exact, through_exact, passing_exact, hex_exact, Heads, Lacks, sign_heads, or_exact, Takes, until_exact, until_sound}
 use Rattle.ntriples_reader_dm.proofs.Labels.{label_text_exact}
 use Rattle.ntriples_reader_dm.proofs.Tags.{tag_text_exact}
 
@@ -27,10 +24,10 @@ pub number_exact : Exact code_point number_behind
 unfolding number_behind
 number_exact =
     passing_exact is_scalar (or (part.then (sign 117) (λ _. hex_digits 4 0)) (part.then (sign 85) (λ _. hex_digits 8 0)))
-      (λ ts. if begins 117 ts then (behind 117 ts >>= hex_at 4 0) else (behind 85 ts >>= hex_at 8 0))
-      (or_exact 117 (part.then (sign 117) (λ _. hex_digits 4 0)) (part.then (sign 85) (λ _. hex_digits 8 0)) (λ ts. behind 117 ts >>= hex_at 4 0) (λ ts. behind 85 ts >>= hex_at 8 0)
-        (sign_then 117 (hex_digits 4 0) (hex_at 4 0) (hex_exact 4 0)) (sign_then 85 (hex_digits 8 0) (hex_at 8 0) (hex_exact 8 0))
-        (sign_heads 117 (hex_at 4 0)) (λ ts. refl))
+    (λ ts. if begins 117 ts then (behind 117 ts >>= hex_at 4 0) else (behind 85 ts >>= hex_at 8 0))
+    (or_exact 117 (part.then (sign 117) (λ _. hex_digits 4 0)) (part.then (sign 85) (λ _. hex_digits 8 0)) (λ ts. behind 117 ts >>= hex_at 4 0) (λ ts. behind 85 ts >>= hex_at 8 0)
+    (sign_then 117 (hex_digits 4 0) (hex_at 4 0) (hex_exact 4 0)) (sign_then 85 (hex_digits 8 0) (hex_at 8 0) (hex_exact 8 0))
+    (sign_heads 117 (hex_at 4 0)) (λ ts. refl))
 
 not_true : (b : Bool) → not b ≡ true → b ≡ false
 not_true true e = absurd cc
@@ -206,8 +203,8 @@ pub subject_exact : Exact subject subject_at
 unfolding subject subject_at
 subject_exact =
     or_exact 60 (part.then iri_ref (λ iri. give (term.Iri iri))) (part.then label (λ l. give (term.Blank l))) (λ ts. through (λ iri. term.Iri iri) (iri_at ts)) (λ ts. through (λ l. term.Blank l) (label_at ts))
-      (through_exact (λ iri. term.Iri iri) iri_ref iri_at iri_exact) (through_exact (λ l. term.Blank l) label label_at label_exact)
-      (heads_through (λ iri. term.Iri iri) iri_at 60 iri_heads) label_lacks
+    (through_exact (λ iri. term.Iri iri) iri_ref iri_at iri_exact) (through_exact (λ l. term.Blank l) label label_at label_exact)
+    (heads_through (λ iri. term.Iri iri) iri_at 60 iri_heads) label_lacks
 
 -- what stands inside the brackets is an IRI
 all_allowed : {ts mid iri : List ℕ} → Repeats iri_character ts mid iri → list_any is_forbidden iri ≡ false

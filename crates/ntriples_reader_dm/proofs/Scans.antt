@@ -1,6 +1,6 @@
 -- Scans that stop at a set of bytes.
-use Rattle.std.proofs.Common.{◌≡◌, ◌∙◌, ℕ, zero, suc, ◌+◌, ◌-◌, ◌<◌, ◌≤◌, List, [], ◌∷◌, ◌++◌, length, take, drop, get_or, Bool, true, false, Option, Some, None, refl, sym, ap, subst, arith, inl, inr, ◌⊎◌, ltb, append_assoc, length-drop, length-take}
-use Rattle.std.specs.Prelude.{◌==◌, ◌||◌, ◌&&◌, not, if◌then◌else◌, chars, encode_utf8_all, IsUtf8, IsCharBoundary}
+use Rattle.std.proofs.Common.{◌≡◌, ◌∙◌, ℕ, zero, suc, ◌-◌, ◌<◌, ◌≤◌, List, [], ◌∷◌, ◌++◌, length, take, drop, get_or, Bool, true, false, Option, Some, None, refl, sym, ap, subst, arith, inl, inr, ltb, append_assoc, length-drop, length-take}
+use Rattle.std.specs.Prelude.{◌==◌, ◌&&◌, not, if◌then◌else◌, chars, encode_utf8_all, IsUtf8, IsCharBoundary}
 use Rattle.std.specs.Char.{encode_utf8}
 use Rattle.std.specs.List.{list_all, position, position_or_len}
 use Rattle.std.proofs.lemmas.Bool.{eqb-true, eq-eqb, cases_Bool, ltb-false}
@@ -15,11 +15,11 @@ use Rattle.lanes_dm.specs.ByteSet.{has_byte}
 use Rattle.ntriples_reader_dm.specs.declared.classes.Kind.{Kind}
 use Rattle.ntriples_reader_dm.specs.declared.classes.Kind.TheVariants as kinds
 use Rattle.ntriples_reader_dm.specs.Grammar.{iri_character, text_character}
-use Rattle.ntriples_reader_dm.specs.Reading.{◌>>=◌, through, only, with_first, until_within, until_at, iri_one, text_one, number_behind}
+use Rattle.ntriples_reader_dm.specs.Reading.{◌>>=◌, only, with_first, until_within, until_at, iri_one, text_one, number_behind}
 use Rattle.ntriples_reader_dm.specs.declared.fault.LineFault.{LineFault}
 use Rattle.ntriples_reader_dm.specs.declared.fault.LineFault.TheVariants.{Memory, Bad}
 use Rattle.ntriples_reader_dm.specs.Views.{Fails, special, close_of, one_of, escape_of, before, NoneIn, FindsFirst}
-use Rattle.ntriples_reader_dm.proofs.Exact.{Exact, Lacks, Takes, none_some, pair, bind_is, true_false, both_of, until_step, until_enough}
+use Rattle.ntriples_reader_dm.proofs.Exact.{Exact, Lacks, Takes, none_some, pair, true_false, both_of, until_step, until_enough}
 use Rattle.ntriples_reader_dm.proofs.Labels.{all_behind}
 use Rattle.ntriples_reader_dm.proofs.Readers.{iri_one_exact, iri_plain, iri_takes, iri_lacks, text_one_exact, text_plain, text_takes, text_lacks}
 
@@ -237,7 +237,6 @@ found_some p bs i e rest r ub ascii none =
     let empty : length rest ≡ 0 = ap length (sym (encodes-chars rest u)) ∙ ap (λ us. length (encode_utf8_all us)) none in
     let full : length rest ≡ length bs - i = ap length r ∙ length-drop i bs in
     absurd (omega (arith, h.0))
-
 
 -- the bytes of a kind are ASCII
 forbidden_small : (c : ℕ) → is_forbidden c ≡ true → c < 128

@@ -1,5 +1,5 @@
 -- What is read as a tag is the longest one.
-use Rattle.std.proofs.Common.{◌≡◌, ◌∙◌, ℕ, List, [], ◌∷◌, ◌++◌, Bool, true, false, Option, Some, None, refl, sym, ap, subst, inl, inr, ◌⊎◌}
+use Rattle.std.proofs.Common.{◌≡◌, ◌∙◌, ℕ, List, [], ◌∷◌, ◌++◌, Bool, true, false, Option, Some, None, refl, sym, ap, subst, inl, inr}
 use Rattle.std.specs.Prelude.{◌==◌, ◌||◌, ◌&&◌, not, if◌then◌else◌}
 use Rattle.std.proofs.lemmas.Bool.{eqb-true, cases_Bool}
 use Rattle.names_dm.specs.Characters.{is_ascii_letter}
@@ -98,7 +98,7 @@ tag_step first c (d ∷ us) h g false e true f =
     let p = both_of (c == 45) (is_letter_or_digit d) f in
     let q = tag_rest_first d us p.1 in
     subst (λ (x : List ℕ × List ℕ). IsTagRest first (c ∷ d ∷ us) (with_more c x).0 (with_more c x).1) (sym q)
-      (tag_hyphen first c d us (tag_rest false us).0 (tag_rest false us).1 p.0 p.1 (subst (λ (x : List ℕ × List ℕ). IsTagRest false (d ∷ us) x.0 x.1) q g))
+    (tag_hyphen first c d us (tag_rest false us).0 (tag_rest false us).1 p.0 p.1 (subst (λ (x : List ℕ × List ℕ). IsTagRest false (d ∷ us) x.0 x.1) q g))
 tag_step first c ts h g false e false f = record { whole = refl; allowed = refl; most = λ more rest w k. tag_stops first c ts e f more rest w k }
 
 nothing_left : (more rest : List ℕ) → [] ≡ more ++ rest → more ≡ []

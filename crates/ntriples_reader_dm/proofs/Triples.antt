@@ -1,8 +1,8 @@
 -- Literals, triples and lines are read exactly. Whether a literal has a type shows only behind its quotes and the blanks there, so
 -- these parts are read together with what follows them.
-use Rattle.std.proofs.Common.{◌≡◌, ◌∙◌, ℕ, List, [], ◌∷◌, ◌++◌, Bool, true, false, Option, Some, None, refl, sym, ap, subst, inl, inr, ◌⊎◌}
-use Rattle.std.specs.Prelude.{◌==◌, if◌then◌else◌}
-use Rattle.std.proofs.lemmas.Bool.{eqb-true, eq-eqb, cases_Bool}
+use Rattle.std.proofs.Common.{◌≡◌, ◌∙◌, ℕ, List, [], ◌∷◌, Bool, true, false, Option, Some, None, refl, sym, ap, subst, inl, inr, ◌⊎◌}
+use Rattle.std.specs.Prelude.{if◌then◌else◌}
+use Rattle.std.proofs.lemmas.Bool.{eqb-true, cases_Bool}
 use Rattle.names_dm.specs.Literals.{literal_of}
 use Rattle.names_dm.specs.Statements.{Statement}
 use Rattle.names_dm.specs.declared.literal.LiteralType.{LiteralType}
@@ -11,10 +11,10 @@ use Rattle.names_dm.specs.declared.term.Term.{Term}
 use Rattle.names_dm.specs.declared.term.Term.TheVariants as term
 use Rattle.ntriples_reader_dm.specs.Part.{sign, give, or, optional}
 use Rattle.ntriples_reader_dm.specs.Part as part
-use Rattle.ntriples_reader_dm.specs.Grammar.{blanks, iri_ref, quoted, label, tag, literal_type, literal, subject, object, triple, comment, line}
+use Rattle.ntriples_reader_dm.specs.Grammar.{blanks, iri_ref, tag, literal_type, literal, subject, object, triple, comment, line}
 use Rattle.ntriples_reader_dm.specs.Reading.{◌>>=◌, begins, behind, through, skip, until_at, text_one, iri_at, quoted_at, label_at, tag_text, tag_at, typed_at, tagged_at, type_at, literal_at, subject_at, object_at, triple_at, ended, said, line_at}
-use Rattle.ntriples_reader_dm.proofs.Exact.{Exact, none_some, some_is, pair, pair_is, bind_some, bind_is, true_false, behind_is, give_exact, then_exact, sign_then, through_exact, Heads, Lacks, begins_is, lacking, sign_heads, chosen, Unblank, unblank, skip_stands, skip_blanks, skip_read, skip_twice, blanks_then}
-use Rattle.ntriples_reader_dm.proofs.Readers.{iri_exact, quoted_exact, label_exact, tag_exact, subject_exact}
+use Rattle.ntriples_reader_dm.proofs.Exact.{Exact, none_some, some_is, pair, pair_is, bind_some, bind_is, give_exact, then_exact, sign_then, through_exact, Heads, Lacks, begins_is, lacking, sign_heads, chosen, Unblank, unblank, skip_stands, skip_blanks, skip_read, skip_twice, blanks_then}
+use Rattle.ntriples_reader_dm.proofs.Readers.{iri_exact, quoted_exact, tag_exact, subject_exact}
 
 unblank_bind : {A B : Type 0} (f : List ℕ → Option A) (g : A → Option B) → Unblank f → Unblank (λ ts. f ts >>= g)
 unblank_bind f g u c ts e = ap (λ r. r >>= g) (u c ts e)
@@ -53,9 +53,9 @@ tagged = part.then tag (λ t. give (Tagged t))
 typed_exact : Exact typed typed_at
 typed_exact =
     sign_then 94 (part.then (sign 94) (λ _. part.then blanks (λ _. part.then iri_ref (λ iri. give (Typed iri))))) (λ a. behind 94 a >>= λ b. through (λ iri. Typed iri) (iri_at (skip b)))
-      (sign_then 94 (part.then blanks (λ _. part.then iri_ref (λ iri. give (Typed iri)))) (λ b. through (λ iri. Typed iri) (iri_at (skip b)))
-        (blanks_then (part.then iri_ref (λ iri. give (Typed iri))) (λ ts. through (λ iri. Typed iri) (iri_at ts)) (through_exact (λ iri. Typed iri) iri_ref iri_at iri_exact)
-          (unblank_bind iri_at (λ x. Some (pair (Typed x.0) x.1)) iri_unblank)))
+    (sign_then 94 (part.then blanks (λ _. part.then iri_ref (λ iri. give (Typed iri)))) (λ b. through (λ iri. Typed iri) (iri_at (skip b)))
+    (blanks_then (part.then iri_ref (λ iri. give (Typed iri))) (λ ts. through (λ iri. Typed iri) (iri_at ts)) (through_exact (λ iri. Typed iri) iri_ref iri_at iri_exact)
+    (unblank_bind iri_at (λ x. Some (pair (Typed x.0) x.1)) iri_unblank)))
 
 tagged_exact : Exact tagged tagged_at
 tagged_exact = through_exact (λ t. Tagged t) tag tag_at tag_exact
@@ -209,11 +209,11 @@ object_then {W} K k f = record {
     | inr l ↦
         let text = l.1 in
         let behind_type : K (term.Literal (literal_of l.1 l.3.1)) l.3.0 rest v =
-            subst (λ (us : List ℕ). K (term.Literal (literal_of l.1 l.3.1)) us rest v) (sym l.3.3.0) (subst (λ (o : Term). K o h.0 rest v) l.3.3.1 h.3) in
+        subst (λ (us : List ℕ). K (term.Literal (literal_of l.1 l.3.1)) us rest v) (sym l.3.3.0) (subst (λ (o : Term). K o h.0 rest v) l.3.3.1 h.3) in
         let q = (type_then (λ t. K (term.Literal (literal_of l.1 t))) (λ t. k (term.Literal (literal_of l.1 t))) (λ t. f (term.Literal (literal_of l.1 t)))).complete l.0 rest v (l.3.0, l.3.1, l.3.2, behind_type) in
         let b = bind_some (type_at (skip l.0)) (λ (x : LiteralType × List ℕ). k (term.Literal (literal_of l.1 x.0)) x.1) (pair v rest) q in
         bind_is (object_at ts) (λ (x : Term × List ℕ). k x.0 x.1) (pair (term.Literal (literal_of l.1 b.0.0)) b.0.1)
-          (object_literal ts (pair (term.Literal (literal_of l.1 b.0.0)) b.0.1) (literal_is ts b.0.1 l.1 b.0.0 l.0 (quoted_exact.complete ts l.0 l.1 l.2) b.1))
+        (object_literal ts (pair (term.Literal (literal_of l.1 b.0.0)) b.0.1) (literal_is ts b.0.1 l.1 b.0.0 l.0 (quoted_exact.complete ts l.0 l.1 l.2) b.1))
         ∙ b.2
   ];
 }
@@ -243,13 +243,13 @@ pub triple_exact : Exact triple triple_at
 unfolding triple triple_at
 triple_exact =
     then_exact subject (λ s. part.then blanks (λ _. part.then iri_ref (λ p. part.then blanks (λ _. part.then object (λ o. dot_behind (says s p o)))))) subject_at
-      (λ s ts. iri_at (skip ts) >>= λ p. object_at (skip p.1) >>= λ o. dot_at (says s p.0 o.0) o.1) subject_exact
-      (λ s. blanks_then (part.then iri_ref (λ p. part.then blanks (λ _. part.then object (λ o. dot_behind (says s p o))))) (λ ts. iri_at ts >>= λ p. object_at (skip p.1) >>= λ o. dot_at (says s p.0 o.0) o.1)
-        (then_exact iri_ref (λ p. part.then blanks (λ _. part.then object (λ o. dot_behind (says s p o)))) iri_at (λ p ts. object_at (skip ts) >>= λ o. dot_at (says s p o.0) o.1) iri_exact
-          (λ p. blanks_then (part.then object (λ o. dot_behind (says s p o))) (λ ts. object_at ts >>= λ o. dot_at (says s p o.0) o.1)
-            (object_then (λ o. dot_behind (says s p o)) (λ o. dot_at (says s p o)) (λ o. dot_follows (says s p o)))
-            (unblank_bind object_at (λ o. dot_at (says s p o.0) o.1) object_unblank)))
-        (unblank_bind iri_at (λ p. object_at (skip p.1) >>= λ o. dot_at (says s p.0 o.0) o.1) iri_unblank))
+    (λ s ts. iri_at (skip ts) >>= λ p. object_at (skip p.1) >>= λ o. dot_at (says s p.0 o.0) o.1) subject_exact
+    (λ s. blanks_then (part.then iri_ref (λ p. part.then blanks (λ _. part.then object (λ o. dot_behind (says s p o))))) (λ ts. iri_at ts >>= λ p. object_at (skip p.1) >>= λ o. dot_at (says s p.0 o.0) o.1)
+    (then_exact iri_ref (λ p. part.then blanks (λ _. part.then object (λ o. dot_behind (says s p o)))) iri_at (λ p ts. object_at (skip ts) >>= λ o. dot_at (says s p o.0) o.1) iri_exact
+    (λ p. blanks_then (part.then object (λ o. dot_behind (says s p o))) (λ ts. object_at ts >>= λ o. dot_at (says s p o.0) o.1)
+    (object_then (λ o. dot_behind (says s p o)) (λ o. dot_at (says s p o)) (λ o. dot_follows (says s p o)))
+    (unblank_bind object_at (λ o. dot_at (says s p o.0) o.1) object_unblank)))
+    (unblank_bind iri_at (λ p. object_at (skip p.1) >>= λ o. dot_at (says s p.0 o.0) o.1) iri_unblank))
 
 -- ---- lines
 

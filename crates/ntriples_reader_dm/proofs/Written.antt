@@ -1,9 +1,9 @@
 -- The written form of a triple, without its LF, is a line that says it: in characters.
-use Rattle.std.proofs.Common.{◌≡◌, ◌∙◌, ℕ, List, [], ◌∷◌, ◌++◌, Bool, true, false, Option, Some, None, refl, sym, ap, subst, inl, inr, append_assoc}
+use Rattle.std.proofs.Common.{◌≡◌, ◌∙◌, ℕ, List, [], ◌∷◌, ◌++◌, Bool, true, false, Some, None, refl, sym, ap, subst, inl, inr, append_assoc}
 use Rattle.std.specs.Prelude.{◌==◌, ◌||◌, ◌&&◌, not, if◌then◌else◌}
 use Rattle.std.specs.List.{list_all, list_any, flat_map}
 use Rattle.std.proofs.lemmas.Bool.{eqb-true, cases_Bool}
-use Rattle.names_dm.specs.Literals.{LiteralValue, is_string_type, literal_of}
+use Rattle.names_dm.specs.Literals.{LiteralValue, literal_of}
 use Rattle.names_dm.specs.Statements.{Statement}
 use Rattle.names_dm.specs.Characters.{is_ascii_letter}
 use Rattle.names_dm.specs.Terminals.{is_forbidden, is_iri, is_label, is_tag, begins_label, continues_label, last_of, is_letter_or_digit}
@@ -11,7 +11,7 @@ use Rattle.names_dm.specs.declared.literal.LiteralType.{LiteralType}
 use Rattle.names_dm.specs.declared.literal.LiteralType.TheVariants.{Plain, Typed, Tagged}
 use Rattle.names_dm.specs.declared.term.Term.{Term}
 use Rattle.names_dm.specs.declared.term.Term.TheVariants as term
-use Rattle.ntriples_dm.specs.Written.{is_escaped, escaped}
+use Rattle.ntriples_dm.specs.Written.{escaped}
 use Rattle.ntriples_reader_dm.specs.Part.{Repeats, IsLongest}
 use Rattle.ntriples_reader_dm.specs.Part.Repeats.{no_repeat, one_more}
 use Rattle.ntriples_reader_dm.specs.Grammar.{blanks, iri_character, iri_ref, text_character, echar, quoted, label, tag, literal_type, literal, subject, object, triple, line}
@@ -62,7 +62,7 @@ text_repeats : (text rest : List ℕ) → Repeats text_character (flat_map escap
 text_repeats [] rest = no_repeat
 text_repeats (c ∷ text) rest =
     subst (λ (us : List ℕ). Repeats text_character us rest (c ∷ text)) (sym (append_assoc (escaped c) (flat_map escaped text) rest))
-      (one_more {mid = flat_map escaped text ++ rest} (text_stands c (flat_map escaped text ++ rest)) (text_repeats text rest))
+    (one_more {mid = flat_map escaped text ++ rest} (text_stands c (flat_map escaped text ++ rest)) (text_repeats text rest))
 
 quoted_stands : (text rest : List ℕ) → quoted (34 ∷ (flat_map escaped text ++ 34 ∷ rest)) rest text
 unfolding quoted
@@ -84,7 +84,7 @@ tag_space true empty [] ms e = absurd cc
 tag_space false empty [] ms e = absurd cc
 tag_space first empty (c ∷ cs) ms e =
     tag_space (first && not (c == 45)) (c == 45) cs ms
-      (both_of ((((c == 45) && not empty) || (not (c == 45) && ((first && is_ascii_letter c) || (not first && is_letter_or_digit c))))) (rest_is_tag (first && not (c == 45)) (c == 45) (cs ++ 32 ∷ ms)) e).1
+    (both_of ((((c == 45) && not empty) || (not (c == 45) && ((first && is_ascii_letter c) || (not first && is_letter_or_digit c))))) (rest_is_tag (first && not (c == 45)) (c == 45) (cs ++ 32 ∷ ms)) e).1
 
 space_only : (rule : List ℕ → Bool) (text rest : List ℕ) → ((ms : List ℕ) → rule (text ++ 32 ∷ ms) ≡ true → ⊥) → (more behind : List ℕ) → 32 ∷ rest ≡ more ++ behind → rule (text ++ more) ≡ true → more ≡ []
 space_only rule text rest stops [] behind w k = refl
@@ -121,8 +121,27 @@ type_stands : (k : LiteralType) (rest : List ℕ) → IsLawfulType k → literal
 unfolding literal_type
 type_stands Plain rest h = inl (refl, refl)
 type_stands (Typed d) rest h =
-    inr (inl (type_chars (Typed d) (32 ∷ rest), tt, none (type_chars (Typed d) (32 ∷ rest)), (94 ∷ iri_chars d (32 ∷ rest), tt, refl, (iri_chars d (32 ∷ rest), tt, refl, (iri_chars d (32 ∷ rest), tt, none (iri_chars d (32 ∷ rest)),
-      (32 ∷ rest, d, iri_stands d (32 ∷ rest) h.0.0, (refl, refl)))))))
+    inr (inl (
+      type_chars (Typed d) (32 ∷ rest),
+      tt,
+      none (type_chars (Typed d) (32 ∷ rest)),
+      (
+        94 ∷ iri_chars d (32 ∷ rest),
+        tt,
+        refl,
+        (
+          iri_chars d (32 ∷ rest),
+          tt,
+          refl,
+          (
+            iri_chars d (32 ∷ rest),
+            tt,
+            none (iri_chars d (32 ∷ rest)),
+            (32 ∷ rest, d, iri_stands d (32 ∷ rest) h.0.0, (refl, refl)),
+          ),
+        ),
+      ),
+    ))
 type_stands (Tagged t) rest h = inr (inr (64 ∷ (t ++ 32 ∷ rest), tt, none (64 ∷ (t ++ 32 ∷ rest)), (32 ∷ rest, t, tag_stands t rest h.0, (refl, refl))))
 
 abbrev literal_by : List ℕ → LiteralType → Bool → LiteralValue
@@ -144,14 +163,44 @@ object_stands (term.Literal v) rest h =
 pub line_stands : (t : Statement) → IsLawful t → line (line_chars t) [] (Some t)
 unfolding line triple
 line_stands t h =
-    let o = 32 ∷ term_chars t.object (32 ∷ 46 ∷ []) in
-    (line_chars t, tt, none (line_chars t), ([], Some t,
-      inl ([], t,
-        (32 ∷ iri_chars t.predicate o, t.subject, subject_stands t.subject (iri_chars t.predicate o) h.subject,
-        (iri_chars t.predicate o, tt, one_space (iri_chars t.predicate o),
-        (o, t.predicate, iri_stands t.predicate o h.predicate.0,
-        (term_chars t.object (32 ∷ 46 ∷ []), tt, one_space (term_chars t.object (32 ∷ 46 ∷ [])),
-        (32 ∷ 46 ∷ [], t.object, object_stands t.object (46 ∷ []) h.object,
-        (46 ∷ [], tt, one_space (46 ∷ []), ([], tt, refl, (refl, refl)))))))),
-        (refl, refl)),
-      ([], tt, none [], ([], None, inr (refl, refl), (refl, refl)))))
+    let o = 32 ∷ term_chars t.object (32 ∷ 46 ∷ []) in (
+      line_chars t,
+      tt,
+      none (line_chars t),
+      (
+        [],
+        Some t,
+        inl (
+          [],
+          t,
+          (
+            32 ∷ iri_chars t.predicate o,
+            t.subject,
+            subject_stands t.subject (iri_chars t.predicate o) h.subject,
+            (
+              iri_chars t.predicate o,
+              tt,
+              one_space (iri_chars t.predicate o),
+              (
+                o,
+                t.predicate,
+                iri_stands t.predicate o h.predicate.0,
+                (
+                  term_chars t.object (32 ∷ 46 ∷ []),
+                  tt,
+                  one_space (term_chars t.object (32 ∷ 46 ∷ [])),
+                  (
+                    32 ∷ 46 ∷ [],
+                    t.object,
+                    object_stands t.object (46 ∷ []) h.object,
+                    (46 ∷ [], tt, one_space (46 ∷ []), ([], tt, refl, (refl, refl))),
+                  ),
+                ),
+              ),
+            ),
+          ),
+          (refl, refl),
+        ),
+        ([], tt, none [], ([], None, inr (refl, refl), (refl, refl))),
+      ),
+    )

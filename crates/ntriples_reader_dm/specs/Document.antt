@@ -1,5 +1,5 @@
 -- A document: its lines, each in the grammar, and their triples in order.
-use Rattle.std.specs.Prelude.{◌≡◌, ◌≤◌, ◌<◌, ◌+◌, ℕ, List, [], ◌∷◌, ◌++◌, Option, Result, Ok, Err, length, option_to_list}
+use Rattle.std.specs.Prelude.{◌≡◌, ℕ, List, [], ◌∷◌, ◌++◌, Option, option_to_list}
 use Rattle.names_dm.specs.Statements.{Statement}
 use Rattle.ntriples_reader_dm.specs.Grammar.{IsLine}
 use Rattle.ntriples_reader_dm.specs.Lines.{lines}

@@ -1,5 +1,5 @@
 -- A line of a document (RDF 1.1 N-Triples, section 7, with blanks allowed inside literals), in characters.
-use Rattle.std.specs.Prelude.{◌≡◌, ℕ, ◌+◌, ◌*◌, ◌<◌, ◌==◌, ◌||◌, ◌&&◌, nat_le, zero, suc, List, [], ◌∷◌, ◌++◌, Option, Some, None, Bool, true, not, nat_lt, length, chars, IsUtf8}
+use Rattle.std.specs.Prelude.{ℕ, ◌+◌, ◌*◌, zero, suc, List, [], Option, not, chars, IsUtf8}
 use Rattle.names_dm.specs.Literals.{literal_of}
 use Rattle.names_dm.specs.Statements.{Statement}
 use Rattle.names_dm.specs.Terminals.{is_forbidden, is_label, is_tag}

@@ -1,5 +1,5 @@
 -- Reading a line from left to right: the value of a part and the characters behind it, or nothing.
-use Rattle.std.specs.Prelude.{◌≡◌, ℕ, ◌+◌, ◌*◌, ◌==◌, ◌||◌, ◌&&◌, zero, suc, List, [], ◌∷◌, ◌++◌, Option, Some, None, Bool, true, false, not, length, if◌then◌else◌}
+use Rattle.std.specs.Prelude.{ℕ, ◌+◌, ◌*◌, ◌==◌, ◌||◌, ◌&&◌, zero, suc, List, [], ◌∷◌, Option, Some, None, Bool, true, false, not, length, if◌then◌else◌}
 use Rattle.names_dm.specs.Literals.{literal_of}
 use Rattle.names_dm.specs.Statements.{Statement}
 use Rattle.names_dm.specs.Terminals.{is_forbidden, begins_label, continues_label, is_letter_or_digit}

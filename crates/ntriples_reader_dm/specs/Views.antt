@@ -1,5 +1,5 @@
 -- What the functions that read return, against what reading gives.
-use Rattle.std.specs.Prelude.{◌≡◌, ℕ, ◌==◌, ◌≤◌, ◌<◌, ◌+◌, ◌||◌, if◌then◌else◌, List, [], ◌∷◌, ◌++◌, Option, Some, None, Bool, true, false, not, Result, Ok, Err, chars, IsUtf8, length, option_to_list}
+use Rattle.std.specs.Prelude.{◌≡◌, ℕ, ◌||◌, if◌then◌else◌, List, ◌∷◌, ◌++◌, Option, Some, None, Bool, true, not, Result, Ok, Err}
 use Rattle.std.specs.List.{list_all}
 use Rattle.names_dm.specs.Statements.{Statement}
 use Rattle.names_dm.specs.Terminals.{is_forbidden}
@@ -7,15 +7,11 @@ use Rattle.ntriples_dm.specs.Written.{is_escaped}
 use Rattle.lanes_dm.specs.ByteSet.{has_byte}
 use Rattle.ntriples_reader_dm.specs.declared.fault.LineFault.{LineFault}
 use Rattle.ntriples_reader_dm.specs.declared.fault.LineFault.TheVariants.{Memory, Bad}
-use Rattle.ntriples_reader_dm.specs.declared.fault.GraphError.{GraphError}
-use Rattle.ntriples_reader_dm.specs.declared.fault.GraphError.TheVariants as errors
 use Rattle.ntriples_reader_dm.specs.declared.classes.Kind.{Kind}
 use Rattle.ntriples_reader_dm.specs.declared.classes.Classes.{Classes}
 use Rattle.ntriples_reader_dm.specs.declared.classes.Kind.TheVariants as kinds
 use Rattle.ntriples_reader_dm.specs.Characters.{escape_value}
-use Rattle.ntriples_reader_dm.specs.Document.{AreTriples, IsDocument, limit}
 use Rattle.ntriples_reader_dm.specs.Grammar.{IsLine}
-use Rattle.ntriples_reader_dm.specs.Lines.{lines}
 use Rattle.ntriples_reader_dm.specs.Reading.{Read, begins, only, valued_at, number_behind, iri_one, text_one, through}
 
 -- reading gives nothing; or memory ran out

@@ -135,7 +135,10 @@ fn letter(text: &str) -> Result<(char, &str), LineFault>
 fn is_forbidden(c: char) -> bool
     ensures { result ≡ is_forbidden c }
 {
-    matches!(c, '\0'..=' ' | '<' | '>' | '"' | '{' | '}' | '|' | '^' | '`' | '\\')
+    matches!(
+        c,
+        '\0'..=' ' | '<' | '>' | '"' | '{' | '}' | '|' | '^' | '`' | '\\'
+    )
 }
 
 // UCHAR in an IRI, behind its backslash.

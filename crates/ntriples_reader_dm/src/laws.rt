@@ -11,12 +11,10 @@ ghost use Rattle.ntriples_reader_dm.specs.Lawful.{IsLawful};
 pub fn one_meaning()
     ensures line { (bytes : List ℕ) (x y : Option Statement) → IsLine bytes x → IsLine bytes y → x ≡ y }
     ensures document { (bytes : List ℕ) (ts us : List Statement) → IsDocument bytes ts → IsDocument bytes us → ts ≡ us }
-{
-}
+{}
 
 /// The lines of triples in their written form are a document of these triples, for all triples whose texts are of
 /// their types. The call does nothing; its clause is the law.
 pub fn written_text()
     ensures { (triples : List Statement) → All IsLawful triples → IsDocument (flat_map triple_text triples) triples }
-{
-}
+{}

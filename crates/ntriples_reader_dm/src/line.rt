@@ -24,7 +24,11 @@ fn quoted<'a>(alloc: Global, classes: &Classes, text: &'a str) -> Result<(Text, 
     inside(alloc, Kind::Quoted, &classes.quoted, rest)
 }
 
-fn typed<'a>(alloc: Global, classes: &Classes, text: &'a str) -> Result<(LiteralType, &'a str), LineFault>
+fn typed<'a>(
+    alloc: Global,
+    classes: &Classes,
+    text: &'a str,
+) -> Result<(LiteralType, &'a str), LineFault>
     requires { AreClasses classes.now }
     ensures seen { Gives (λ x. (x.0, chars x.1.now)) result (typed_at (chars text.now)) }
     ensures utf8 { IfOk result (λ x. IsUtf8 x.1.now) }
@@ -44,7 +48,11 @@ fn tagged(alloc: Global, text: &str) -> Result<(LiteralType, &str), LineFault>
 }
 
 #[tactic(auto, unfolding(crate::specs::Reading::type_at))]
-fn kind<'a>(alloc: Global, classes: &Classes, text: &'a str) -> Result<(LiteralType, &'a str), LineFault>
+fn kind<'a>(
+    alloc: Global,
+    classes: &Classes,
+    text: &'a str,
+) -> Result<(LiteralType, &'a str), LineFault>
     requires { AreClasses classes.now }
     ensures seen { Gives (λ x. (x.0, chars x.1.now)) result (type_at (chars text.now)) }
     ensures utf8 { IfOk result (λ x. IsUtf8 x.1.now) }
@@ -59,7 +67,11 @@ fn kind<'a>(alloc: Global, classes: &Classes, text: &'a str) -> Result<(LiteralT
 }
 
 #[tactic(auto, unfolding(crate::specs::Reading::literal_at))]
-fn literal<'a>(alloc: Global, classes: &Classes, text: &'a str) -> Result<(Term, &'a str), LineFault>
+fn literal<'a>(
+    alloc: Global,
+    classes: &Classes,
+    text: &'a str,
+) -> Result<(Term, &'a str), LineFault>
     requires { AreClasses classes.now }
     ensures seen { Gives (λ x. (x.0, chars x.1.now)) result (literal_at (chars text.now)) }
     ensures utf8 { IfOk result (λ x. IsUtf8 x.1.now) }
@@ -70,7 +82,11 @@ fn literal<'a>(alloc: Global, classes: &Classes, text: &'a str) -> Result<(Term,
 }
 
 #[tactic(auto, unfolding(crate::specs::Reading::subject_at))]
-fn subject<'a>(alloc: Global, classes: &Classes, text: &'a str) -> Result<(Term, &'a str), LineFault>
+fn subject<'a>(
+    alloc: Global,
+    classes: &Classes,
+    text: &'a str,
+) -> Result<(Term, &'a str), LineFault>
     requires { AreClasses classes.now }
     ensures seen { Gives (λ x. (x.0, chars x.1.now)) result (subject_at (chars text.now)) }
     ensures utf8 { IfOk result (λ x. IsUtf8 x.1.now) }
@@ -109,7 +125,11 @@ fn whole(subject: Term, predicate: names_dm::Iri, object: Term) -> Result<Triple
 }
 
 #[tactic(auto, unfolding(crate::specs::Reading::triple_at))]
-fn triple<'a>(alloc: Global, classes: &Classes, text: &'a str) -> Result<(Triple, &'a str), LineFault>
+fn triple<'a>(
+    alloc: Global,
+    classes: &Classes,
+    text: &'a str,
+) -> Result<(Triple, &'a str), LineFault>
     requires { AreClasses classes.now }
     ensures seen { Gives (λ x. (x.0, chars x.1.now)) result (triple_at (chars text.now)) }
     ensures utf8 { IfOk result (λ x. IsUtf8 x.1.now) }
@@ -149,7 +169,11 @@ fn content(alloc: Global, classes: &Classes, text: &str) -> Result<Option<Triple
 }
 
 /// What a line of bytes says.
-pub(crate) fn line(alloc: Global, classes: &Classes, bytes: &[u8]) -> Result<Option<Triple>, LineFault>
+pub(crate) fn line(
+    alloc: Global,
+    classes: &Classes,
+    bytes: &[u8],
+) -> Result<Option<Triple>, LineFault>
     requires { AreClasses classes.now }
     ensures { IsLineAnswer bytes.now result }
 {

@@ -17,7 +17,11 @@ use value_dm::Text;
 
 /// An IRI in its brackets.
 #[tactic(auto, unfolding(crate::specs::Reading::iri_at))]
-pub(crate) fn iri<'a>(alloc: Global, class: &ByteClass, text: &'a str) -> Result<(Iri, &'a str), LineFault>
+pub(crate) fn iri<'a>(
+    alloc: Global,
+    class: &ByteClass,
+    text: &'a str,
+) -> Result<(Iri, &'a str), LineFault>
     requires { (x : ℕ) → has_byte class.now x ≡ special Kind.Iri x }
     ensures seen { Gives (λ x. (x.0, chars x.1.now)) result (iri_at (chars text.now)) }
     ensures utf8 { IfOk result (λ x. IsUtf8 x.1.now) }

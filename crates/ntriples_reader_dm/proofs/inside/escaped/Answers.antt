@@ -1,4 +1,4 @@
-use Rattle.std.proofs.Common.{◌≡◌, ◌∙◌, ◌++◌, ◌∷◌, [], List, ℕ, Some, None, sym, ap, refl, chars, string_bytes}
+use Rattle.std.proofs.Common.{◌∙◌, ◌++◌, ◌∷◌, [], List, ℕ, Some, sym, ap, chars, string_bytes}
 use Rattle.std.proofs.lemmas.Bool.{ne_eqb}
 use Rattle.std.proofs.lemmas.Result.{err_from_is_err_and}
 use Rattle.std.proofs.lemmas.Str.{chars-nil}
@@ -26,7 +26,7 @@ returns-then-c-ne92-clause-seen c =
     let all = until_at (close_of c.args.kind) (one_of c.args.kind) (chars c.args.text.now) in
     let found = found_read c.args.class.now c.args.kind c.requires (chars (string_bytes c.inside.out)) (chars c.inside.rest.now) (chars c.in-Some.front.now) (chars c.in-Some.behind.now) c.in-Some.c all c.in-Some.ensures.found c.inside.invariant.0 in
     bad_found c.args.class.now c.args.kind c.requires (chars (string_bytes c.inside.out) ++ chars c.in-Some.front.now) (chars c.in-Some.behind.now) c.in-Some.c all found c.in-Some.ensures.found.here
-      (ne_eqb c.in-Some.c (close_of c.args.kind) (λ e. c.if-c-close.false (e ∙ sym c.close_of-close.ensures))) (ne_eqb c.in-Some.c 92 c.if-c-ne92.true)
+    (ne_eqb c.in-Some.c (close_of c.args.kind) (λ e. c.if-c-close.false (e ∙ sym c.close_of-close.ensures))) (ne_eqb c.in-Some.c 92 c.if-c-ne92.true)
 
 pub returns-in_err-value-clause-seen : goal.returns-in_err-value-clause-seen
 returns-in_err-value-clause-seen c =
@@ -40,10 +40,11 @@ pub inside-preserved : goal.inside-preserved
 inside-preserved c =
     let all = until_at (close_of c.args.kind) (one_of c.args.kind) (chars c.args.text.now) in
     let found = found_read c.args.class.now c.args.kind c.requires (chars (string_bytes c.inside.out)) (chars c.inside.rest.now) (chars c.in-Some.front.now) (chars c.in-Some.behind.now) c.in-Some.c all c.in-Some.ensures.found c.inside.invariant.0 in
-    let out = c.in_ok-push_char.ensures ∙ ap (λ (us : List ℕ). us ++ c.in_ok-value.value ∷ []) c.in_ok-push_text.ensures in
-    (ap (λ (us : List ℕ). before us (until_at (close_of c.args.kind) (one_of c.args.kind) (chars c.in_ok-value.after.now))) out
-      ∙ escape_found c.args.kind (chars (string_bytes c.inside.out) ++ chars c.in-Some.front.now) (chars c.in-Some.behind.now) (chars c.in_ok-value.after.now) c.in-Some.c c.in_ok-value.value all found c.if-c-ne92.false c.in_ok-value.ensures.seen,
-    c.in_ok-value.ensures.utf8)
+    let out = c.in_ok-push_char.ensures ∙ ap (λ (us : List ℕ). us ++ c.in_ok-value.value ∷ []) c.in_ok-push_text.ensures in (
+      ap (λ (us : List ℕ). before us (until_at (close_of c.args.kind) (one_of c.args.kind) (chars c.in_ok-value.after.now))) out
+          ∙ escape_found c.args.kind (chars (string_bytes c.inside.out) ++ chars c.in-Some.front.now) (chars c.in-Some.behind.now) (chars c.in_ok-value.after.now) c.in-Some.c c.in_ok-value.value all found c.if-c-ne92.false c.in_ok-value.ensures.seen,
+      c.in_ok-value.ensures.utf8,
+    )
 
 pub returns-clause-seen : goal.returns-clause-seen
 returns-clause-seen c =

@@ -1,4 +1,4 @@
-use Rattle.std.proofs.Common.{◌≡◌, ◌∙◌, List, ℕ, Some, None, sym, ap, refl, chars, string_bytes}
+use Rattle.std.proofs.Common.{◌∙◌, List, ℕ, Some, sym, ap, chars}
 use Rattle.ntriples_reader_dm.proofs.Exact.{pair}
 use Rattle.ntriples_reader_dm.proofs.Scans.{kind_ascii, first_close, first_none}
 use Rattle.ntriples_reader_dm.proofs.inside.inside.Goals as goal

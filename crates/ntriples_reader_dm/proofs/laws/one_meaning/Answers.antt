@@ -1,4 +1,4 @@
-use Rattle.std.proofs.Common.{◌≡◌, chars}
+use Rattle.std.proofs.Common.{chars}
 use Rattle.ntriples_reader_dm.specs.Lines.{lines}
 use Rattle.ntriples_reader_dm.proofs.Triples.{line_one}
 use Rattle.ntriples_reader_dm.proofs.Cuts.{triples_one}

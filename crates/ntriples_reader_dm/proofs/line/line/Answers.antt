@@ -1,4 +1,4 @@
-use Rattle.std.proofs.Common.{◌≡◌, ◌∙◌, ℕ, List, sym, ap, Option, Some, None, Result, Ok, Err, subst, chars}
+use Rattle.std.proofs.Common.{◌∙◌, ℕ, List, sym, Option, Result, Ok, Err, subst, chars}
 use Rattle.std.specs.Prelude.{IsUtf8}
 use Rattle.names_dm.specs.Statements.{Statement}
 use Rattle.ntriples_reader_dm.specs.declared.fault.LineFault.{LineFault}

@@ -1,4 +1,4 @@
-use Rattle.std.proofs.Common.{◌≡◌, chars}
+use Rattle.std.proofs.Common.{chars}
 use Rattle.ntriples_reader_dm.proofs.Readers.{subject_node}
 use Rattle.ntriples_reader_dm.proofs.line.triple.Goals as goal
 

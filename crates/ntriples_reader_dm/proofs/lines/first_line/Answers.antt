@@ -1,8 +1,8 @@
-use Rattle.std.proofs.Common.{◌≡◌, ◌∙◌, ◌∷◌, ◌<◌, ◌-◌, List, ℕ, Some, None, sym, ap, subst, length, take, drop, arith, eqb, length-drop, length-take}
+use Rattle.std.proofs.Common.{◌∙◌, ◌∷◌, ◌<◌, ◌-◌, List, ℕ, sym, ap, subst, length, take, drop, arith, eqb, length-drop, length-take}
 use Rattle.std.proofs.lemmas.Bool.{eqb-true, eq-eqb}
 use Rattle.std.proofs.lemmas.List.Quantifiers.{position-Some}
 use Rattle.lanes_dm.specs.ByteSet.{has_byte}
-use Rattle.ntriples_reader_dm.specs.Lines.{is_end, lines, behind_end}
+use Rattle.ntriples_reader_dm.specs.Lines.{is_end, lines}
 use Rattle.ntriples_reader_dm.proofs.Exact.{true_false}
 use Rattle.ntriples_reader_dm.proofs.Cuts.{cut_found, uncut, no_lines, same_position, behind_short_at}
 use Rattle.ntriples_reader_dm.proofs.lines.first_line.Goals as goal
@@ -26,6 +26,6 @@ returns-in-Some-clause-shorter c =
 pub returns-in-None-clause-lines : goal.returns-in-None-clause-lines
 returns-in-None-clause-lines c =
     uncut c.args.bytes.now (λ e. true_false (eqb (length c.args.bytes.now) 0) (eq-eqb (length c.args.bytes.now) 0 e) (sym c.if-is_empty.ensures))
-      (sym (c.in-None.ensures ∙ same_position (has_byte c.args.class.now) is_end c.requires c.args.bytes.now))
+    (sym (c.in-None.ensures ∙ same_position (has_byte c.args.class.now) is_end c.requires c.args.bytes.now))
     ∙ ap (λ (ls : List (List ℕ)). c.args.bytes.now ∷ ls) (sym (no_lines (take (length c.args.bytes.now - length c.args.bytes.now) (drop (length c.args.bytes.now) c.args.bytes.now))
-      (omega (arith, length-take (length c.args.bytes.now - length c.args.bytes.now) (drop (length c.args.bytes.now) c.args.bytes.now)))))
+    (omega (arith, length-take (length c.args.bytes.now - length c.args.bytes.now) (drop (length c.args.bytes.now) c.args.bytes.now)))))

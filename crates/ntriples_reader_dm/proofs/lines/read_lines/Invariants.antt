@@ -1,4 +1,4 @@
-use Rattle.std.proofs.Common.{◌≡◌, ◌≤◌, ◌+◌, length}
+use Rattle.std.proofs.Common.{◌≤◌, ◌+◌, length}
 use Rattle.ntriples_reader_dm.proofs.Cuts.{AreSoFar}
 use Rattle.ntriples_reader_dm.proofs.lines.read_lines.Given as goal
 

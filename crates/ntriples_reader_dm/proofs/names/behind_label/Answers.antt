@@ -1,4 +1,4 @@
-use Rattle.std.proofs.Common.{◌≡◌, ◌∙◌, true, false, sym, chars}
+use Rattle.std.proofs.Common.{◌≡◌, true, false, chars}
 use Rattle.names_dm.specs.Terminals.{continues_label}
 use Rattle.ntriples_reader_dm.specs.Reading.{label_rest}
 use Rattle.ntriples_reader_dm.proofs.Behind.{label_goes_on, label_stops, label_ends}

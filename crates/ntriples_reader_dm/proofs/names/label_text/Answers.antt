@@ -1,4 +1,4 @@
-use Rattle.std.proofs.Common.{◌≡◌, ◌∙◌, sym, chars}
+use Rattle.std.proofs.Common.{sym, chars}
 use Rattle.ntriples_reader_dm.proofs.Behind.{label_ends_with, label_is}
 use Rattle.ntriples_reader_dm.proofs.names.label_text.Goals as goal
 

@@ -1,4 +1,4 @@
-use Rattle.std.proofs.Common.{◌≡◌, chars}
+use Rattle.std.proofs.Common.{chars}
 use Rattle.ntriples_reader_dm.proofs.Readers.{tag_text_allowed}
 use Rattle.ntriples_reader_dm.proofs.names.tag.Goals as goal
 

@@ -1,4 +1,4 @@
-use Rattle.std.proofs.Common.{◌≡◌, ◌∙◌, sym, chars}
+use Rattle.std.proofs.Common.{sym, chars}
 use Rattle.ntriples_reader_dm.proofs.Behind.{tag_ends_with, tag_is}
 use Rattle.ntriples_reader_dm.proofs.names.tag_text.Goals as goal
 

@@ -13,7 +13,7 @@ made (Err e) front rest text h w = tt
 pub returns : goal.returns
 returns c =
     made c.from_str.result (chars c.split_at.result.0.now) (chars c.args.rest.now) (chars c.args.text.now) c.from_str.ensures.chars
-      (text_in_front c.args.text.now c.args.rest.now c.split_at.result.0.now c.utf8.text c.utf8.rest c.requires c.split_at.ensures.front)
+    (text_in_front c.args.text.now c.args.rest.now c.split_at.result.0.now c.utf8.text c.utf8.rest c.requires c.split_at.ensures.front)
 
 pub overflow_sub-text : goal.overflow_sub-text
 overflow_sub-text c = rest_fits c.args.text.now c.args.rest.now c.utf8.text c.utf8.rest c.requires

@@ -1,4 +1,4 @@
-use Rattle.std.proofs.Common.{◌≡◌, ◌∙◌, Some, None, sym, ap, refl}
+use Rattle.std.proofs.Common.{◌∙◌, sym, ap}
 use Rattle.std.specs.List.{position}
 use Rattle.lanes_dm.specs.ByteSet.{has_byte}
 use Rattle.ntriples_reader_dm.proofs.Scans.{none_in_text, found_first, found_some, found_place}
@@ -17,4 +17,4 @@ returns-in_err-first-clause-found c =
 pub returns-clause-found : goal.returns-clause-found
 returns-clause-found c =
     found_first c.args.class.now c.requires c.args.text.now c.utf8.text c.in_ok-at.at (sym (c.in_ok-at.ensures ∙ ap (position (has_byte c.args.class.now)) c.as_bytes.ensures.value)) c.split_at.result.0.now c.split_at.result.1.now c.in_ok-first.behind.now c.in_ok-first.first
-      c.split_at.ensures.front c.split_at.ensures.back c.in_ok-first.ensures.chars
+    c.split_at.ensures.front c.split_at.ensures.back c.in_ok-first.ensures.chars
