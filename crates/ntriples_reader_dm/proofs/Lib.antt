@@ -1,0 +1,12 @@
+pub mod Behind
+pub mod Cuts
+pub mod Exact
+pub mod Labels
+pub mod Longest
+pub mod OneAnswer
+pub mod ReadBack
+pub mod Readers
+pub mod Scans
+pub mod Tags
+pub mod Triples
+pub mod Written
