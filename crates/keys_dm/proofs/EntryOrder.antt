@@ -13,11 +13,11 @@ use Rattle.members_dm.specs.Membership.{IsIn}
 use Rattle.members_dm.proofs.AnyLemmas.{item_from_all}
 use Rattle.members_dm.proofs.MembershipLemmas.{IsIn-map, map-IsIn}
 use Rattle.value_dm.specs.contracts.value.ValueOrd.TheImpl.Laws.{total-law}
-use Rattle.table_csv.specs.Cells.{Cell, Row}
+use Rattle.table_csv.specs.Cells.{Cell, Row, cells_at}
 use Rattle.keys_dm.specs.Entries.{AreEntries, AreSorted, EndsAt, GoesOnAt, IsRisingBy, IsSortedIndexOf, against, entry_cmp, is_before, is_not_behind, key_of, positions_of}
 use Rattle.keys_dm.specs.Hashes.{hash_of}
 use Rattle.keys_dm.specs.KeyCells.{cell_cmp}
-use Rattle.keys_dm.specs.KeyCells.{AreRowsWith, IsRowWith, cells_at, row_at}
+use Rattle.keys_dm.specs.KeyCells.{AreRowsWith, IsRowWith, row_at}
 use Rattle.keys_dm.specs.declared.index.Entry.{Entry}
 use Rattle.keys_dm.proofs.CellOrder.{keys_decide}
 use Rattle.keys_dm.proofs.KeyRanges.{equal_between, lt_le, before_parted, not_behind_parted, start_first, part_at, part_has}

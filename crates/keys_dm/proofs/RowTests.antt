@@ -3,11 +3,11 @@ use Rattle.std.proofs.Common.{◌≡◌, ◌∙◌, ℕ, List, [], ◌∷◌, No
 use Rattle.std.specs.Prelude.{◌↔◌}
 use Rattle.members_dm.specs.Membership.{IsIn}
 use Rattle.schema_dm.specs.declared.table.ForeignKey.{ForeignKey}
-use Rattle.table_csv.specs.Cells.{Cell, Row}
+use Rattle.table_csv.specs.Cells.{Cell, Row, cells_at}
 use Rattle.std.proofs.lemmas.List.{length-map}
 use Rattle.keys_dm.specs.Entries.{positions_of}
 use Rattle.keys_dm.specs.declared.index.Entry.{Entry}
-use Rattle.keys_dm.specs.KeyCells.{AreRowsWith, IsRowWith, cells_at}
+use Rattle.keys_dm.specs.KeyCells.{AreRowsWith, IsRowWith}
 use Rattle.keys_dm.specs.Violations.{IsDangling}
 
 -- a list that isn't empty has an item

@@ -6,9 +6,9 @@ use Rattle.std.proofs.lemmas.List.{get_or_default, get_or-map, length-map}
 use Rattle.members_dm.proofs.AnyLemmas.{item_from_all}
 use Rattle.members_dm.proofs.ElementsLemmas.{item_within}
 use Rattle.members_dm.proofs.MembershipLemmas.{IsIn-map, map-IsIn}
-use Rattle.table_csv.specs.Cells.{Row}
+use Rattle.table_csv.specs.Cells.{Row, cells_at}
 use Rattle.keys_dm.specs.Entries.{IsSortedIndexOf, key_of, positions_of}
-use Rattle.keys_dm.specs.KeyCells.{HasTwin, cells_at, row_at}
+use Rattle.keys_dm.specs.KeyCells.{HasTwin, row_at}
 use Rattle.keys_dm.specs.Twins.{FlagsPair, FlagsPairs, IsPairOf, TellTwins, entry_at}
 use Rattle.keys_dm.specs.declared.index.Entry.{Entry}
 use Rattle.keys_dm.proofs.EntryOrder.{key_between}

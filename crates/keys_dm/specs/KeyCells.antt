@@ -1,19 +1,15 @@
--- The cells of a row in the columns of a key, and the rows with these cells. Columns and rows are counted from 0.
-use Rattle.std.specs.Prelude.{◌≡◌, ◌≢◌, ◌<◌, ◌↔◌, ℕ, zero, suc, List, [], ◌∷◌, ◌++◌, map, length, slice_index_or}
+-- The order of cells, and the rows with the cells of a key. Columns and rows are counted from 0.
+use Rattle.std.specs.Prelude.{◌≡◌, ◌≢◌, ◌<◌, ◌↔◌, ℕ, zero, suc, List, [], ◌∷◌, ◌++◌, length, slice_index_or}
 use Rattle.std.specs.declared.option.Option.TheVariants.{None}
 use Rattle.std.specs.declared.cmp.Ordering.{Ordering}
 use Rattle.std.specs.Option.{option_cmp}
 use Rattle.members_dm.specs.Membership.{IsIn, IsRising}
 use Rattle.value_dm.specs.contracts.value.ValueOrd.TheImpl.{cmp-value}
-use Rattle.table_csv.specs.Cells.{Cell, Row}
+use Rattle.table_csv.specs.Cells.{Cell, Row, cells_at}
 
 -- the order of cells: NULL first, then values by their kinds
 abbrev pub cell_cmp : Cell → Cell → Ordering
 cell_cmp = option_cmp cmp-value.it
-
--- the row's cells in the columns at the places, in this order; None for a place that the row doesn't have
-abbrev pub cells_at : List ℕ → Row → List Cell
-cells_at places row = map (λ place. slice_index_or row place None) places
 
 abbrev pub row_at : List Row → ℕ → Row
 row_at rows position = slice_index_or rows position []

@@ -1,6 +1,6 @@
 ghost use Rattle.std.specs.Prelude.{◌≡◌, ◌↔◌, None, IsTrue, slice_index_or};
 ghost use Rattle.members_dm.specs.Membership.{IsIn};
-ghost use Rattle.keys_dm.specs.KeyCells.{cells_at};
+ghost use Rattle.table_csv.specs.Cells.{cells_at};
 
 use schema_dm::Places;
 use value_dm::Cell;

@@ -3,8 +3,8 @@ ghost use Rattle.std.specs.List.Sorted.{IsPartitionPoint};
 ghost use Rattle.keys_dm.specs.Entries as spec;
 ghost use Rattle.keys_dm.specs.Entries.{AreEntries, AreSorted, EndsAt, GoesOnAt, IsSortedIndexOf, positions_of};
 ghost use Rattle.keys_dm.specs.Indexes.{IsIndexOf};
-ghost use Rattle.keys_dm.specs.KeyCells.{AreRowsWith, HasTwin, cells_at};
-ghost use Rattle.table_csv.specs.Cells.{Row};
+ghost use Rattle.keys_dm.specs.KeyCells.{AreRowsWith, HasTwin};
+ghost use Rattle.table_csv.specs.Cells.{Row, cells_at};
 ghost use Rattle.keys_dm.specs.Hashes.{hash_of};
 
 use crate::hashes::hash_at;

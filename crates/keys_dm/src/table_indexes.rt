@@ -2,9 +2,10 @@ ghost use Rattle.std.specs.Prelude.{◌≡◌, ◌↔◌, ◌<◌, ◌≤◌, So
 ghost use Rattle.std.specs.List.{AllZip};
 ghost use Rattle.schema_dm.specs.Schemas.{IsTable, table_at};
 ghost use Rattle.table_csv.specs.Databases.{rows_at};
+ghost use Rattle.table_csv.specs.Cells.{cells_at};
 ghost use Rattle.keys_dm.specs.Entries.{positions_of};
 ghost use Rattle.keys_dm.specs.Indexes.{IsIndexOf};
-ghost use Rattle.keys_dm.specs.KeyCells.{AreRowsWith, IsAlone, cells_at};
+ghost use Rattle.keys_dm.specs.KeyCells.{AreRowsWith, IsAlone};
 ghost use Rattle.keys_dm.specs.TableIndexes.{AreIndexesOf, AreTableIndexes, FindsTargets, IsIndexIfGiven, IsToldBy, IsToldByKey};
 
 use crate::cells::has_null_at;

@@ -1,9 +1,9 @@
 use Rattle.std.proofs.Common.{◌≡◌, ◌∙◌, [], ◌∷◌, ◌++◌, cond, List, None, true, ap, subst}
 use Rattle.std.specs.Prelude.{◌↔◌}
 use Rattle.members_dm.specs.Membership.{IsIn}
-use Rattle.table_csv.specs.Cells.{Row}
+use Rattle.table_csv.specs.Cells.{Row, cells_at}
 use Rattle.table_csv.specs.Databases.{rows_at}
-use Rattle.keys_dm.specs.KeyCells.{cells_at, row_at}
+use Rattle.keys_dm.specs.KeyCells.{row_at}
 use Rattle.keys_dm.specs.Violations.{IsRepeated}
 use Rattle.keys_dm.specs.declared.violation.Violation.{Violation}
 use Rattle.keys_dm.proofs.RowLevels.{primary_levels}

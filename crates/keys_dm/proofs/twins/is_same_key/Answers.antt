@@ -1,8 +1,9 @@
 use Rattle.std.proofs.Common.{◌∙◌, ap, sym}
 use Rattle.std.specs.Ordering.{is_eq}
 use Rattle.std.specs.Cmp.Lexicographic.{slice_cmp}
+use Rattle.table_csv.specs.Cells.{cells_at}
 use Rattle.keys_dm.specs.Entries.{key_of}
-use Rattle.keys_dm.specs.KeyCells.{cell_cmp, cells_at}
+use Rattle.keys_dm.specs.KeyCells.{cell_cmp}
 use Rattle.keys_dm.proofs.CellOrder.{keys_decide}
 use Rattle.keys_dm.proofs.twins.is_same_key.Goals as goal
 
