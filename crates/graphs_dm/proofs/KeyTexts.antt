@@ -1,6 +1,6 @@
 -- The texts of keys, part by part.
-use Rattle.std.proofs.Common.{◌≡◌, ◌∙◌, ◌++◌, ◌∷◌, [], ◌+◌, ◌<◌, ℕ, List, Bool, true, false, refl, sym, ap, append_assoc, length, take, get_or, map, None, Some}
-use Rattle.std.specs.Prelude.{encode_utf8_all, slice_index_or, slice_get}
+use Rattle.std.proofs.Common.{◌≡◌, ◌∙◌, ◌++◌, ◌∷◌, [], ◌+◌, ◌<◌, ℕ, List, Bool, true, false, sym, ap, append_assoc, length, take, get_or, None, Some}
+use Rattle.std.specs.Prelude.{encode_utf8_all, slice_index_or}
 use Rattle.std.specs.List.{flat_map}
 use Rattle.std.proofs.lemmas.Grind.{flat_map-append}
 use Rattle.std.proofs.lemmas.List.{append-nil, take_more}

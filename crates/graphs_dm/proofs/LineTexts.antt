@@ -1,19 +1,22 @@
 -- Lines that are made of prepared texts are the lines of the graph.
-use Rattle.std.proofs.Common.{◌≡◌, ◌∙◌, ◌++◌, ◌∷◌, [], ◌+◌, ◌<◌, ℕ, suc, zero, List, None, Some, Option, Bool, true, false, refl, sym, ap, arith, inl, inr, append_assoc, length, add-one, map}
+use Rattle.std.proofs.Common.{◌≡◌, ◌∙◌, ◌++◌, ◌∷◌, [], ◌+◌, ◌<◌, ℕ, suc, zero, List, None, Some, Option, true, refl, sym, ap, arith, inl, inr, append_assoc, length, add-one, map}
 use Rattle.std.specs.Prelude.{encode_utf8_all, codes, slice_get}
 use Rattle.std.specs.Option.{option_map}
-use Rattle.std.specs.List.{flat_map}
-use Rattle.std.proofs.lemmas.Bool.{cases_Bool}
+use Rattle.std.specs.List.{flat_map, list_all}
+use Rattle.std.specs.Str.{IsAscii}
+use Rattle.std.proofs.lemmas.Str.Ascii.{IsAscii-nil}
+use Rattle.names_dm.specs.Characters.{is_ascii}
+use Rattle.names_dm.proofs.Ascii.{and_parts, ascii_cons}
+use Rattle.std.proofs.lemmas.Bool.{cases_Bool, ltb-true}
 use Rattle.std.proofs.lemmas.List.{length-map}
 use Rattle.std.proofs.lemmas.Option.{slice_get-map}
 use Rattle.std.proofs.lemmas.Str.{encodes-IsAscii}
-use Rattle.members_dm.specs.Membership.{IsIn}
 use Rattle.members_dm.specs.Places.{levels}
 use Rattle.members_dm.proofs.ElementsLemmas.{item_at_index}
 use Rattle.value_dm.specs.Kinds.{kind_of}
 use Rattle.value_dm.specs.Lexical.{lexical_form}
 use Rattle.value_dm.specs.declared.value.Value.{Value}
-use Rattle.schema_dm.specs.Schemas.{IsForeignKey, IsTable}
+use Rattle.schema_dm.specs.Schemas.{IsTable}
 use Rattle.schema_dm.specs.declared.draft.Column.{Column}
 use Rattle.schema_dm.specs.declared.table.ForeignKey.{ForeignKey}
 use Rattle.schema_dm.specs.declared.table.Table.{Table}
@@ -23,7 +26,7 @@ use Rattle.table_csv.specs.Cells.{Cell, Row, cells_at}
 use Rattle.table_csv.specs.Databases.{Data, rows_at}
 use Rattle.graphs_dm.specs.DirectGraph.{line_of, literal_fact, reference_fact, type_fact}
 use Rattle.graphs_dm.specs.Heads.{cell_line, class_end, column_head, framed, reference_head, up_to, value_line}
-use Rattle.graphs_dm.specs.Levels.{Placed, cell_level, cells_level, cells_links, key_level, keys_level, links_level, row_group, text_of}
+use Rattle.graphs_dm.specs.Levels.{Placed, cell_level, cells_level, cells_links, key_level, keys_level, row_group, text_of}
 use Rattle.graphs_dm.specs.Lines.{key_line, keys_line, link_line}
 use Rattle.graphs_dm.specs.Nodes.{has_null, row_node, rows_with}
 use Rattle.graphs_dm.proofs.LevelTexts.{text_of-level, text_of-links, text_of-no_level, text_of-none, text_of-one, text_of-three}
@@ -49,8 +52,12 @@ up_to-more text k start old new before pushed =
 
 -- ---- lines
 
+ascii_text : (text : List ℕ) → list_all is_ascii text ≡ true → IsAscii text
+ascii_text [] all = IsAscii-nil
+ascii_text (c ∷ cs) all = let parts = and_parts (is_ascii c) (list_all is_ascii cs) all in ascii_cons c cs (ltb-true c 128 parts.0) (ascii_text cs parts.1)
+
 type_bytes : encode_utf8_all (word_iri RdfType) ≡ word_iri RdfType
-type_bytes = refl
+type_bytes = encodes-IsAscii (word_iri RdfType) (ascii_text (word_iri RdfType) refl)
 
 type_parts : (s sp lt w gt i e : List ℕ) → s ++ ((sp ++ lt) ++ (w ++ ((gt ++ (sp ++ lt)) ++ (i ++ (gt ++ e))))) ≡ ((((s ++ sp) ++ (lt ++ (w ++ gt))) ++ sp) ++ (lt ++ (i ++ gt))) ++ e
 type_parts s sp lt w gt i e = simp append_assoc

@@ -2,7 +2,7 @@ ghost use Rattle.std.specs.Prelude.{◌≡◌, ◌+◌, ◌<◌, ◌^◌, ◌++�
 ghost use Rattle.std.specs.List.{flat_map};
 ghost use Rattle.members_dm.specs.Membership.{IsIn};
 ghost use Rattle.members_dm.specs.Places.{levels};
-ghost use Rattle.schema_dm.specs.Schemas.{table_at};
+ghost use Rattle.schema_dm.specs.Schemas.{IsTable, table_at};
 ghost use Rattle.names_dm.specs.Rows.{key_list, row_iri};
 ghost use Rattle.keys_dm.specs.Entries.{positions_of};
 ghost use Rattle.keys_dm.specs.TableIndexes.{AreIndexesOf};
@@ -20,7 +20,7 @@ ghost use Rattle.names_dm.specs.Labels.{row_label};
 
 use crate::heads::{Heads, TableHeads};
 use itoa::Buffer;
-use keys_dm::{Entry, KeyIndexes, has_null_at, table_of};
+use keys_dm::{Entry, KeyIndexes, has_null_at, rows_of, table_of};
 use lines_dm::{append_part, append_value, line_end};
 use names_dm::Base;
 use schema_dm::{Column, ForeignKey, Places, Table};
@@ -190,15 +190,14 @@ fn append_blank(t: u32, i: usize, out: &mut Vec<u8>) -> Result<(), AllocError>
 }
 
 // Appends the node of a row.
-#[tactic(auto, unfolding(crate::specs::Nodes::row_node))]
 fn append_node(source: &Source, t: u32, i: usize, out: &mut Vec<u8>) -> Result<(), AllocError>
     requires has { HasRow source.now.database.now t i }
     requires indexes { AreIndexesOf source.now.database.now source.now.indexes.now }
     requires heads { AreAllHeads source.now.base.now source.now.database.now.tables source.now.heads.now }
     ensures { OnOk result (out.new.items ≡ out.old.items ++ term_text (node_term (row_node source.now.base.now source.now.database.now t i))) }
 {
-    let table = &source.database.schema().tables()[t as usize];
-    let row = source.database.rows_of(t).row(i);
+    let table = table_of(source.database, t);
+    let row = rows_of(source.database, t).row(i);
     let told = source.indexes.has_own_key(source.database, t, i);
     let heads = &source.heads.as_slice()[t as usize];
     if told {
@@ -307,6 +306,7 @@ fn append_lines(
     out: &mut Vec<u8>,
 ) -> Result<(), AllocError>
     requires table { t < length source.now.database.now.tables }
+    requires lawful { IsTable source.now.database.now.tables (table_at source.now.database.now.tables t) }
     requires own { AreHeads source.now.base.now (table_at source.now.database.now.tables t) heads.now }
     requires indexes { AreIndexesOf source.now.database.now source.now.indexes.now }
     requires heads { AreAllHeads source.now.base.now source.now.database.now.tables source.now.heads.now }

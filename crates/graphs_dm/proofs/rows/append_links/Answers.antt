@@ -1,7 +1,6 @@
-use Rattle.std.proofs.Common.{ℕ, subst, sym}
+use Rattle.std.proofs.Common.{subst, sym}
 use Rattle.members_dm.specs.Membership.{IsIn}
 use Rattle.keys_dm.specs.Entries.{positions_of}
-use Rattle.keys_dm.specs.declared.index.Entry.{Entry}
 use Rattle.graphs_dm.proofs.KeyRows.{row_of_entry}
 use Rattle.graphs_dm.proofs.rows.append_links.Goals as goal
 

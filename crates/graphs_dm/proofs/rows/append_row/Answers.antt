@@ -10,6 +10,7 @@ use Rattle.table_csv.proofs.Zips.{zipped_length}
 use Rattle.graphs_dm.specs.Heads.{AreHeads}
 use Rattle.schema_dm.specs.Schemas.{table_at}
 use Rattle.graphs_dm.proofs.Keys.{heads_at}
+use Rattle.graphs_dm.proofs.NodeLaws.{is_table}
 use Rattle.graphs_dm.proofs.rows.append_row.Goals as goal
 use Rattle.facts_dm.specs.Facts.{node_term}
 
@@ -18,6 +19,9 @@ bounds-as_slice-t c =
     let many = zipped_length (AreHeads c.args.source.now.base.now) c.args.source.now.database.now.tables c.args.source.now.heads.now c.requires.heads in
     let read = ap length c.as_slice.ensures in
     omega (arith, many, read, c.requires.has.table)
+
+pub append_lines-requires-clause-lawful : goal.append_lines-requires-clause-lawful
+append_lines-requires-clause-lawful c = is_table c.args.source.now.database.now c.rows_of.ensures.fits c.args.t c.requires.has.table
 
 pub append_lines-requires-clause-own : goal.append_lines-requires-clause-own
 append_lines-requires-clause-own c =
