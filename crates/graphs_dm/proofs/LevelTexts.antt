@@ -19,24 +19,24 @@ use Rattle.graphs_dm.specs.DirectGraph.{line_of, reference_fact}
 use Rattle.graphs_dm.specs.Levels.{Placed, links_level, text_of}
 
 module _ (base : List ℕ) where
-  text_of-none : text_of base [] ≡ []
+  pub text_of-none : text_of base [] ≡ []
   unfolding text_of
   text_of-none = ap (flat_map (line_of base)) items_of-none
 
-  text_of-one : (x : Fact) → text_of base (one_item x) ≡ line_of base x
+  pub text_of-one : (x : Fact) → text_of base (one_item x) ≡ line_of base x
   unfolding text_of
   text_of-one x = ap (flat_map (line_of base)) (items_of-one x) ∙ append-nil (line_of base x)
 
-  text_of-no_level : (level : ℕ → Placed) → text_of base (levels 0 level) ≡ []
+  pub text_of-no_level : (level : ℕ → Placed) → text_of base (levels 0 level) ≡ []
   unfolding text_of
   text_of-no_level level = ap (flat_map (line_of base)) (items_of-no_level level)
 
-  text_of-level : (k : ℕ) (level : ℕ → Placed) → text_of base (levels (k + 1) level) ≡ text_of base (levels k level) ++ text_of base (level k)
+  pub text_of-level : (k : ℕ) (level : ℕ → Placed) → text_of base (levels (k + 1) level) ≡ text_of base (levels k level) ++ text_of base (level k)
   unfolding text_of
   text_of-level k level =
       ap (flat_map (line_of base)) (items_of-level k level) ∙ flat_map-append (line_of base) (items_of (levels k level)) (items_of (level k))
 
-  text_of-three : (level : ℕ → Placed) → text_of base (levels 3 level) ≡ text_of base (level 0) ++ (text_of base (level 1) ++ text_of base (level 2))
+  pub text_of-three : (level : ℕ → Placed) → text_of base (levels 3 level) ≡ text_of base (level 0) ++ (text_of base (level 1) ++ text_of base (level 2))
   text_of-three level =
       let none = text_of-no_level level in
       let one = text_of-level 0 level ∙ ap (λ text. text ++ text_of base (level 0)) none in

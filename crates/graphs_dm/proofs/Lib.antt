@@ -3,6 +3,7 @@ pub mod NodeLaws
 mod KeyNodes
 mod LevelTexts
 pub mod DirectLevels
-mod TripleParts
+mod KeyTexts
 mod Keys
-mod RowParts
+mod LineTexts
+mod StreamLaws

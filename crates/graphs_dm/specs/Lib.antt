@@ -3,5 +3,7 @@ pub mod OwnNodes
 pub mod KeyNodes
 pub mod DirectGraph
 pub mod Levels
-pub mod Flags
 pub mod Subjects
+pub mod Heads
+pub mod Streams
+pub mod Lines

@@ -1,8 +1,9 @@
 //! The graphs of a database.
 #![tactic(auto)]
 
-mod flags;
+mod heads;
 mod nodes;
+mod rows;
 mod triples;
 mod writer;
 

@@ -1,10 +1,13 @@
 mod AddingLemmas
 mod CellOrder
 mod DatabaseLevels
-mod IndexSteps
+mod EntryOrder
 mod KeyLists
+mod KeyRanges
 mod OneMatch
+mod PositionLists
 mod RowKinds
 mod RowLevels
 mod RowTests
 pub mod SomeListing
+mod TwinLemmas

@@ -1,7 +1,9 @@
 pub mod Adding
+pub mod Entries
+pub mod Hashes
 pub mod Indexes
 pub mod Kept
 pub mod KeyCells
-pub mod Noting
 pub mod TableIndexes
+pub mod Twins
 pub mod Violations

@@ -2,11 +2,12 @@ ghost use Rattle.std.specs.Prelude.{◌≡◌, ◌↔◌, ◌<◌, [], ◌∷◌
 ghost use Rattle.members_dm.specs.Places.{IsListing};
 ghost use Rattle.keys_dm.specs.Adding.{Adds};
 ghost use Rattle.keys_dm.specs.Kept.{HasMatches};
+ghost use Rattle.keys_dm.specs.TableIndexes.{AreIndexesOf};
 ghost use Rattle.keys_dm.specs.Violations.{KeepsKeys, ViolatesAt};
 
 use crate::ViolationList;
 use crate::row::{Spot, push_of_row};
-use crate::table_indexes::{indexes_of, rows_of};
+use crate::table_indexes::{KeyIndexes, rows_of};
 use std::alloc::{AllocError, Global};
 use table_csv::Database;
 
@@ -19,25 +20,41 @@ pub fn violations(alloc: Global, database: &Database) -> Result<ViolationList, A
     ensures kept { IfOk result (λ found. (found ≡ []) ↔ KeepsKeys database.now) }
     ensures matched { IfOk result (λ found. found ≡ [] → HasMatches database.now) }
 {
+    let indexes = KeyIndexes::new(alloc, database)?;
+    let found = violations_by(alloc, database, &indexes)?;
+    Ok(found)
+}
+
+/// The same as `violations`, by indexes of the database that serve other calls too.
+pub fn violations_by(
+    alloc: Global,
+    database: &Database,
+    indexes: &KeyIndexes,
+) -> Result<ViolationList, AllocError>
+    requires { AreIndexesOf database.now indexes.now }
+    ensures listed { IfOk result (λ found. IsListing (ViolatesAt database.now) found) }
+    ensures kept { IfOk result (λ found. (found ≡ []) ↔ KeepsKeys database.now) }
+    ensures matched { IfOk result (λ found. found ≡ [] → HasMatches database.now) }
+{
     let mut found = ViolationList::new(alloc);
     for table in 0..database.schema().tables().len() {
-        push_of_table(alloc, database, table as u32, &mut found)?;
+        push_of_table(database, indexes, table as u32, &mut found)?;
     }
     Ok(found)
 }
 
 fn push_of_table(
-    alloc: Global,
     database: &Database,
+    indexes: &KeyIndexes,
     table: u32,
     found: &mut ViolationList,
 ) -> Result<(), AllocError>
-    requires { table < length database.now.tables }
+    requires table { table < length database.now.tables }
+    requires indexed { AreIndexesOf database.now indexes.now }
     ensures { OnOk result (Adds (λ p x. ViolatesAt database.now (table ∷ p) x) found.old found.new) }
 {
-    let indexes = indexes_of(alloc, database, table)?;
     for row in 0..rows_of(database, table).len() {
-        push_of_row(alloc, database, &indexes, Spot { table, row }, found)?;
+        push_of_row(database, indexes, Spot { table, row }, found)?;
     }
     Ok(())
 }

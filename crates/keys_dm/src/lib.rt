@@ -3,14 +3,18 @@
 
 mod cells;
 mod database;
+mod hashes;
 mod index;
+mod order;
 mod row;
 mod table_indexes;
+mod twins;
 mod violation;
 
-pub use cells::{has_null, key_cells};
-pub use database::{holds_all, violations};
-pub use index::KeyIndex;
+pub use cells::has_null_at;
+pub use database::{holds_all, violations, violations_by};
+pub use index::Entry;
+pub use table_indexes::{KeyIndexes, rows_of, table_of};
 pub use violation::{Violation, ViolationKind, ViolationList};
 
 #[cfg(test)]

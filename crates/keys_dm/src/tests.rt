@@ -1,6 +1,6 @@
-use crate::{KeyIndex, ViolationList, has_null, holds_all, key_cells, violations};
+use crate::{ViolationList, holds_all, violations};
 use schema_dm::{
-    Column, Columns, Drafts, ForeignDraft, ForeignDrafts, NameLists, Places, Schema, TableDraft,
+    Column, Columns, Drafts, ForeignDraft, ForeignDrafts, NameLists, Schema, TableDraft,
 };
 use std::alloc::{AllocError, Global};
 use std::test::Fail;
@@ -151,11 +151,11 @@ fn shown(alloc: Global, found: &ViolationList) -> Result<String, AllocError> {
 
 // Tables, their rows, and their violations by table, row and kind.
 fn databases() -> &'static str {
-    "A x|1 1|
+    "A x|1 1|kept
 D id v=text !id|1,x 1,y|1 1 RepeatedKey;1 2 RepeatedKey;
 P a b !a,b;Q x y >x,y:P|1,1;2,3 2,-|2 1 Dangling(1);
-P a !a;Q x >x:P|;|
-E id boss !id >boss:E|1,2 2,1 3,-|
+P a !a;Q x >x:P|;|kept
+E id boss !id >boss:E|1,2 2,1 3,-|kept
 E id boss !id >boss:E|1,2 2,3|1 2 Dangling(1);
 N a b !a,b|1,- -,- 1,- 1,1|1 1 NullKey;1 2 NullKey;1 3 NullKey;
 U id mail=text !id ?mail|1,a 2,a 3,- 4,-|1 1 RepeatedUnique(1);1 2 RepeatedUnique(1);
@@ -166,62 +166,27 @@ T a b c ?b ?a >c:T:a >a:K;K k !k|1,1,2 1,1,1;7|1 1 RepeatedUnique(1);1 1 Repeate
 A x !x;B x >x:A|3 2 3;1 2|1 1 RepeatedKey;1 3 RepeatedKey;2 1 Dangling(1);"
 }
 
+// The violations of a database, and whether its keys are kept.
+fn told(alloc: Global, tables: &str, rows: &str) -> Result<String, Fail> {
+    let database = database_of(alloc, tables, rows)?;
+    let found = listed(alloc, &database)?;
+    let mut text = shown(alloc, &found)?;
+    if holds(alloc, &database)? {
+        text.push_str("kept")?;
+    }
+    if found.copy(alloc)? != found {
+        text.push_str("copied amiss")?;
+    }
+    Ok(text)
+}
+
 #[test]
 fn violations_are_listed(rt: HostRuntime) -> Result<(), Fail> {
     let alloc = rt.alloc();
     for line in databases().lines() {
         let (tables, rest) = line.split_once('|').ok_or("no rows")?;
         let (rows, want) = rest.split_once('|').ok_or("no violations")?;
-        let database = database_of(alloc, tables, rows)?;
-        let found = listed(alloc, &database)?;
-        assert_eq!(rt; shown(alloc, &found)?.as_str(), want, "at {line}");
-        assert_eq!(rt; holds(alloc, &database)?, want.is_empty(), "at {line}");
-        assert!(rt; found.copy(alloc)? == found);
+        assert_eq!(rt; told(alloc, tables, rows)?.as_str(), want, "at {line}");
     }
-    Ok(())
-}
-
-fn positions(alloc: Global, rows: &Rows, places: &Places, key: &[Cell]) -> Result<String, Fail> {
-    let index = KeyIndex::new(alloc, rows, places)?;
-    let mut text = String::new(alloc);
-    for position in index.matches(key) {
-        text.push_str(format!(in alloc; "{position} ")?.as_str())?;
-    }
-    Ok(text)
-}
-
-fn places_of(alloc: Global, places: &[u32]) -> Result<Places, AllocError> {
-    let mut list = Places::new(alloc);
-    for place in places {
-        list.push(*place)?;
-    }
-    Ok(list)
-}
-
-#[test]
-fn rows_are_found_by_their_keys(rt: HostRuntime) -> Result<(), Fail> {
-    let alloc = rt.alloc();
-    let database = database_of(alloc, "A x y=text", "1,a 2,a 1,b 1,a -,a -,a")?;
-    let rows = database.rows_of(0);
-    let columns = database.schema().tables()[0].columns.as_slice();
-    let places = places_of(alloc, &[1, 0])?;
-    for (text, want, null) in [
-        ("1,a", "0 3 ", false),
-        ("2,a", "1 ", false),
-        ("2,b", "", false),
-        ("-,a", "4 5 ", true),
-    ] {
-        let cells = row_of(alloc, columns, text)?;
-        let key = key_cells(alloc, cells.as_slice(), &places)?;
-        assert_eq!(rt;
-            positions(alloc, rows, &places, key.as_slice())?.as_str(),
-            want
-        );
-        assert_eq!(rt; has_null(key.as_slice()), null);
-    }
-    let row = row_of(alloc, columns, "1,a")?;
-    let beyond = key_cells(alloc, row.as_slice(), &places_of(alloc, &[2])?)?;
-    assert_eq!(rt; beyond.len(), 1);
-    assert!(rt; has_null(beyond.as_slice()));
     Ok(())
 }
