@@ -1,5 +1,5 @@
 -- The order of entries, and the entries of one key.
-use Rattle.std.proofs.Common.{◌≡◌, ◌≢◌, ℕ, ◌≤◌, ◌<◌, ◌+◌, ◌-◌, List, length, get_or, take, drop, true, false, refl, sym, ap, ◌∙◌, subst, arith, ◌↔◌, inl, inr, AllPairs, IsPermutation, IsSortedBy, Ordering, Less, Equal, Greater, is_lt, nat_cmp}
+use Rattle.std.proofs.Common.{◌≡◌, ◌≢◌, ℕ, suc, [], ◌∷◌, ◌≤◌, ◌<◌, ◌+◌, ◌-◌, List, length, get_or, take, drop, true, false, refl, sym, ap, ◌∙◌, subst, arith, ◌↔◌, inl, inr, AllPairs, IsPermutation, IsSortedBy, Ordering, Less, Equal, Greater, is_lt, nat_cmp}
 use Rattle.std.specs.Cmp.{IsTotalOrder, IsStrictWeakOrder}
 use Rattle.std.specs.Cmp.Lexicographic.{slice_cmp, options_total}
 use Rattle.std.specs.Ordering.{is_eq, is_gt, is_le, ordering_reverse, ordering_then}
@@ -9,7 +9,7 @@ use Rattle.std.proofs.lemmas.Bool.Decides.{nat_tests}
 use Rattle.std.proofs.lemmas.Cmp.{nat_cmp_total, on_total, then_total, lists_total, tied_itself}
 use Rattle.std.proofs.lemmas.List.{get_or_read, get_or-map, length-map}
 use Rattle.std.proofs.lemmas.List.Sorted.{ranks_by, sorted_far, IsPermutation-map, All-permutation}
-use Rattle.members_dm.specs.Membership.{IsIn}
+use Rattle.members_dm.specs.Membership.{IsIn, IsRising}
 use Rattle.members_dm.proofs.AnyLemmas.{item_from_all}
 use Rattle.members_dm.proofs.MembershipLemmas.{IsIn-map, map-IsIn}
 use Rattle.value_dm.specs.contracts.value.ValueOrd.TheImpl.Laws.{total-law}
@@ -21,7 +21,12 @@ use Rattle.keys_dm.specs.KeyCells.{AreRowsWith, IsRowWith, row_at}
 use Rattle.keys_dm.specs.declared.index.Entry.{Entry}
 use Rattle.keys_dm.proofs.CellOrder.{keys_decide}
 use Rattle.keys_dm.proofs.KeyRanges.{equal_between, lt_le, before_parted, not_behind_parted, start_first, part_at, part_has}
-use Rattle.keys_dm.proofs.PositionLists.{positions_apart, positions_cover, positions_within, rising_from_pairs}
+use Rattle.members_dm.proofs.PositionLists.{positions_apart, positions_cover, positions_within}
+
+rising_from_pairs : {X : Type 0} (R : X → X → Type 0) (xs : List X) → AllPairs R xs → IsRising R xs
+rising_from_pairs R [] h = tt
+rising_from_pairs R (x ∷ xs) h =
+    (item_from_all (R x) xs (λ k d l. h 0 (suc k) d (omega arith) (omega arith)), rising_from_pairs R xs (λ i j d a b. h (suc i) (suc j) d (omega arith) (omega arith)))
 
 cells_total : IsTotalOrder (slice_cmp cell_cmp)
 cells_total = lists_total (options_total total-law)

@@ -8,7 +8,7 @@ use Rattle.std.proofs.lemmas.List.{get_or-take, get_or-drop, length-take-le, len
 use Rattle.std.proofs.lemmas.List.Sorted.{ranks_by}
 use Rattle.members_dm.specs.Membership.{IsIn}
 use Rattle.members_dm.proofs.ElementsLemmas.{item_within}
-use Rattle.keys_dm.proofs.PositionLists.{place_of_item}
+use Rattle.members_dm.proofs.PositionLists.{place_of_item}
 
 le_reversed : (r : Ordering) → is_le (ordering_reverse r) ≡ not (is_lt r)
 le_reversed Less = refl

@@ -12,7 +12,7 @@ use Rattle.keys_dm.specs.KeyCells.{HasTwin, row_at}
 use Rattle.keys_dm.specs.Twins.{FlagsPair, FlagsPairs, IsPairOf, TellTwins, entry_at}
 use Rattle.keys_dm.specs.declared.index.Entry.{Entry}
 use Rattle.keys_dm.proofs.EntryOrder.{key_between}
-use Rattle.keys_dm.proofs.PositionLists.{place_of_item, positions_apart, positions_cover, positions_within}
+use Rattle.members_dm.proofs.PositionLists.{place_of_item, positions_apart, positions_cover, positions_within}
 
 pub pairs_turn : (rows : List Row) (places : List ℕ) (entries : List Entry) (place : ℕ) (flags new : List Bool) → 1 ≤ place → place < length entries → FlagsPairs rows places entries place flags
     → FlagsPair rows places (entry_at entries (place - 1)) (entry_at entries place) flags new → FlagsPairs rows places entries (place + 1) new

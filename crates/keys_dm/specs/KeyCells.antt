@@ -1,5 +1,5 @@
 -- The order of cells, and the rows with the cells of a key. Columns and rows are counted from 0.
-use Rattle.std.specs.Prelude.{◌≡◌, ◌≢◌, ◌<◌, ◌↔◌, ℕ, zero, suc, List, [], ◌∷◌, ◌++◌, length, slice_index_or}
+use Rattle.std.specs.Prelude.{◌≡◌, ◌≢◌, ◌<◌, ◌↔◌, ℕ, List, [], length, slice_index_or}
 use Rattle.std.specs.declared.option.Option.TheVariants.{None}
 use Rattle.std.specs.declared.cmp.Ordering.{Ordering}
 use Rattle.std.specs.Option.{option_cmp}
@@ -30,8 +30,3 @@ IsAlone rows places position = (¬ IsIn None (cells_at places (row_at rows posit
 pub record AreRowsWith (rows : List Row) (places : List ℕ) (key : List Cell) (positions : List ℕ) : Type 0 where
   pub rising : IsRising (λ i j. i < j) positions
   pub exact : (position : ℕ) → IsIn position positions ↔ IsRowWith rows places key position
-
--- the positions of n rows
-abbrev pub positions_below : ℕ → List ℕ
-positions_below zero = []
-positions_below (suc n) = positions_below n ++ n ∷ []
