@@ -563,10 +563,15 @@ fn var(alloc: Global, letters: &str) -> Result<Var, Fail> {
     Ok(Var::new(text(alloc, letters)?).ok_or("no variable")?)
 }
 
+fn add_var(vars: &mut Vars, var: Var) -> Result<(), AllocError> {
+    vars.push(var)?;
+    Ok(())
+}
+
 fn vars(alloc: Global) -> Result<Vars, Fail> {
     let mut vars = Vars::new(alloc);
-    vars.push(var(alloc, "ID")?)?;
-    vars.push(var(alloc, "a_20b")?)?;
+    add_var(&mut vars, var(alloc, "ID")?)?;
+    add_var(&mut vars, var(alloc, "a_20b")?)?;
     Ok(vars)
 }
 

@@ -230,7 +230,7 @@ fn copies(rt: HostRuntime) -> Result<(), Fail> {
     Ok(())
 }
 
-fn row(alloc: Global) -> Result<Cells, Fail> {
+fn row(alloc: Global) -> Result<Cells, AllocError> {
     let mut cells: Cells = Sequence::new(alloc);
     cells.push(Some(Value::Boolean(true)))?;
     cells.push(None)?;
@@ -246,7 +246,7 @@ fn copied_rows(rt: HostRuntime) -> Result<(), Fail> {
     Ok(())
 }
 
-fn two_bytes(alloc: Global) -> Result<Bytes, Fail> {
+fn two_bytes(alloc: Global) -> Result<Bytes, AllocError> {
     let mut bytes = Bytes::new(alloc);
     bytes.push(7)?;
     bytes.push(255)?;
@@ -261,7 +261,7 @@ fn bytes(rt: HostRuntime) -> Result<(), Fail> {
     Ok(())
 }
 
-fn texts(alloc: Global) -> Result<Names, Fail> {
+fn texts(alloc: Global) -> Result<Names, AllocError> {
     let text = Text::from_string(String::from_str(alloc, "a\u{e9}")?);
     let mut items = Vec::new(alloc);
     items.push(text)?;
