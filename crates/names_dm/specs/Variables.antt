@@ -1,4 +1,5 @@
 -- The variables of names.
+use Prim.Native.Char.{code}
 use Rattle.std.specs.Prelude.{ℕ, ◌≡◌, ◌⊎◌, ◌/◌, ◌%◌, ◌++◌, ◌||◌, Bool, true, List, [], ◌∷◌, codes, if◌then◌else◌, nat_lt, encode_utf8_all}
 use Rattle.std.specs.Fmt.{digit_glyph}
 use Rattle.std.specs.List.{flat_map}
@@ -10,7 +11,7 @@ stays_in_variable b = is_letter_or_digit b || nat_lt 255 b
 
 -- the byte itself, or `_` and two upper-case hexadecimal digits
 abbrev pub variable_byte : ℕ → List ℕ
-variable_byte b = if stays_in_variable b then b ∷ [] else 95 ∷ digit_glyph true (b / 16) ∷ digit_glyph true (b % 16) ∷ []
+variable_byte b = if stays_in_variable b then b ∷ [] else code "_" ∷ digit_glyph true (b / 16) ∷ digit_glyph true (b % 16) ∷ []
 
 -- the variable of a name, byte by byte of its UTF-8 form
 abbrev pub variable_of : List ℕ → List ℕ

@@ -142,7 +142,13 @@ fn fields(rt: HostRuntime) -> Result<(), Fail> {
     assert!(rt; are_read(rt.alloc(), number_fields(), NullMode::Plain)?);
     assert!(rt; are_read(rt.alloc(), calendar_fields(), NullMode::Plain)?);
     assert!(rt; are_read(rt.alloc(), text_fields(), NullMode::Plain)?);
-    assert!(rt; are_read(rt.alloc(), fields_without_empty_texts(), NullMode::EmptyNull)?);
+    assert!(rt;
+        are_read(
+            rt.alloc(),
+            fields_without_empty_texts(),
+            NullMode::EmptyNull
+        )?
+    );
     Ok(())
 }
 
@@ -163,7 +169,10 @@ fn canonical_fields(rt: HostRuntime) -> Result<(), Fail> {
     for line in written_fields().lines() {
         let (kind, rest) = line.split_once('|').ok_or("no kind")?;
         let (field, canonical) = rest.split_once('|').ok_or("no field")?;
-        assert_eq!(rt; field_of(rt.alloc(), kind_of(kind), field)?.as_str(), canonical);
+        assert_eq!(rt;
+            field_of(rt.alloc(), kind_of(kind), field)?.as_str(),
+            canonical
+        );
     }
     Ok(())
 }
@@ -209,7 +218,11 @@ Binary|00FF"
 }
 
 fn cell_of(alloc: Global, kind: Kind, field: &str) -> Result<Cell, Fail> {
-    Ok(read_field(alloc, kind, field, NullMode::Plain).ok().ok_or("no cell")?)
+    Ok(
+        read_field(alloc, kind, field, NullMode::Plain)
+            .ok()
+            .ok_or("no cell")?,
+    )
 }
 
 // Whether a copy of the cell is equal and has the same field.
