@@ -58,13 +58,6 @@ within_less p more ts rest us le h = record {
   marks = h.marks;
 }
 
-pub apart_wider : {T V : Type 0} (p : Part T V) (f more : T → Bool) → ((t : T) → f t ≡ true → more t ≡ true) → (ts : List T) → Apart p f ts → Apart p more ts
-apart_wider p f more wider ts h = record {
-  begins = h.begins;
-  spells = λ r v s. let end = h.spells r v s in (end.0, widened f more wider r end.1);
-  marks = h.marks;
-}
-
 pub reads_wider : {T V : Type 0} (p : Part T V) (f more : T → Bool) → ((t : T) → f t ≡ true → more t ≡ true) → (ts : List T) (answer : Answer T V) → Reads p f ts answer → Reads p more ts answer
 reads_wider p f more wider ts answer h = record {
   stands = h.stands;
@@ -110,9 +103,6 @@ behind_token f b more t ts rb e h = behind_took b more ts rb t (f t) e h
 past_took : {T A B : Type 0} (ts : List T) (rb : A × List T → Answer T B) (t : T) (o : Option A) (n : ℕ) → is_some o ≡ true → ((x : A) → length (rest_of (rb (x, ts))) ≤ n) → length (rest_of (took o t ts >>= rb)) ≤ n
 past_took ts rb t (Some x) n e h = h x
 past_took ts rb t None n e h = absurd cc
-
-pub past_token : {T A B : Type 0} (f : T → Option A) (t : T) (ts : List T) (rb : A × List T → Answer T B) (n : ℕ) → is_some (f t) ≡ true → ((x : A) → length (rest_of (rb (x, ts))) ≤ n) → length (rest_of (token_at f (t ∷ ts) >>= rb)) ≤ n
-past_token f t ts rb n e h = past_took ts rb t (f t) n e h
 
 -- a first part that isn't whole, and gets no further than the rest
 pub then_within : {T A B : Type 0} (a : Part T A) (b : A → Part T B) (more : T → Bool) (ts rest : List T) → Within a no ts rest → Within (then a b) more ts rest
@@ -263,11 +253,6 @@ optional_reads {T} {V} a test more item ts reads blocked =
     (or_by test (then a (λ x. give (Some x))) (give None) more ts _ _
     (λ e. (then_give a (λ x. Some x) more ts (item ts) (reads e).0, give_apart {V = Option V} None more ts (reads e).1))
     (λ e. (then_blocked a (λ x. give (Some x)) more ts (blocked e), give_reads {V = Option V} None more ts)))
-
-pub optional_apart : {T V : Type 0} (a : Part T V) (more : T → Bool) (ts : List T) → Blocked a ts → Goes more ts → Apart (optional a) more ts
-optional_apart {T} {V} a more ts h g =
-    within_along (a_or_nothing a) (optional a) more ts ts (optional_same a ts)
-    (or_apart _ _ more ts ts (then_blocked a (λ x. give (Some x)) more ts h) (give_apart {V = Option V} None more ts g))
 
 -- [ a ], whose value has no effect, is a, or nothing
 skip_same : {T : Type 0} (a : Part T (Unit {0})) (ts : List T) → Same (or a (give tt)) (skip (optional a)) ts

@@ -50,9 +50,6 @@ both_sub a b q ts first second = record {
 pub same_self : {T V : Type 0} (p : Part T V) (ts : List T) → Same p p ts
 same_self p ts = record { to = self_sub p ts; from = self_sub p ts }
 
-pub same_sym : {T V : Type 0} (p q : Part T V) (ts : List T) → Same p q ts → Same q p ts
-same_sym p q ts s = record { to = s.from; from = s.to }
-
 pub same_trans : {T V : Type 0} (p q s : Part T V) (ts : List T) → Same p q ts → Same q s ts → Same p s ts
 same_trans p q s ts a b = record { to = sub_trans p q s ts a.to b.to; from = sub_trans s q p ts b.from a.from }
 

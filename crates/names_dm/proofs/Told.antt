@@ -58,9 +58,6 @@ list_of-column_list : (column : List ℕ) (columns : List (List ℕ)) → list_o
 unfolding list_of
 list_of-column_list column columns = ap texts_of (split-column_list column columns) ∙ texts_of-map (column ∷ columns)
 
-ref_columns : List ℕ → List ℕ → List (List ℕ) → RefName
-ref_columns table column columns = record { table = table; columns = column ∷ columns }
-
 pub told_ref-ref : (base table column : List ℕ) (columns : List (List ℕ))
     → told_ref base (ref_iri base record { table = table; columns = column ∷ columns }) ≡ Some (record { table = table; columns = column ∷ columns })
 unfolding told_ref

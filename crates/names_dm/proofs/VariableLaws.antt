@@ -6,7 +6,7 @@ use Rattle.std.specs.Char.{digit_value}
 use Rattle.std.specs.Fmt.{digit_glyph}
 use Rattle.std.specs.List.{list_all}
 use Rattle.names_dm.specs.Terminals.{is_letter_or_digit, is_variable, is_variable_character}
-use Rattle.names_dm.specs.Variables.{stays_in_variable, variable_byte, variable_of}
+use Rattle.names_dm.specs.Variables.{IsReserved, stays_in_variable, variable_byte, variable_of}
 use Rattle.std.specs.Str.{IsAscii}
 use Rattle.std.proofs.lemmas.Str.Ascii.{IsAscii-nil}
 use Rattle.names_dm.proofs.Ascii.{apart, ascii_cons}
@@ -164,3 +164,26 @@ bytes_told (b ∷ bs) (d ∷ ds) same =
 
 pub variable_of-injective : (a b : List ℕ) → variable_of a ≡ variable_of b → a ≡ b
 variable_of-injective a b same = encodes_same a b (bytes_told (encode_utf8_all a) (encode_utf8_all b) same)
+
+-- ---- no reserved variables
+
+digits_low : agree_below (λ d. ltb (digit_glyph true d) 91) (λ d. true) 16 ≡ true
+digits_low = refl
+
+-- behind an underscore that stands first there is no letter of lower case
+second_low : (bs : List ℕ) (c : ℕ) (rest : List ℕ) → flat_map variable_byte bs ≡ 95 ∷ c ∷ rest → ltb c 91 ≡ true
+second_low [] c rest same = cc (ap is_nonempty same)
+second_low (b ∷ bs) c rest same = elim (cases_Bool (stays_in_variable b)) [
+  | inl keeps ↦ let s = rw keeps at same in let head : b ≡ 95 = cc in absurd (no_underscore b keeps head)
+  | inr gone ↦
+      let s = rw gone at same in
+      let second : digit_glyph true (b / 16) ≡ c = cc in
+      let small = gone_small b gone in
+      rw (← second) (agree_below_at (λ d. ltb (digit_glyph true d) 91) (λ d. true) 16 (b / 16) digits_low (omega arith))
+]
+
+pub never_reserved : (name : List ℕ) → IsReserved (variable_of name) → ⊥
+never_reserved name (inl row) = cc (second_low (encode_utf8_all name) 114 [] row)
+never_reserved name (inr (inl subject)) = cc (second_low (encode_utf8_all name) 115 [] subject)
+never_reserved name (inr (inr (inl marker))) = cc (second_low (encode_utf8_all name) 109 [] marker)
+never_reserved name (inr (inr (inr (rest, query)))) = cc (second_low (encode_utf8_all name) 113 rest query)

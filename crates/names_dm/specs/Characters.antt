@@ -1,4 +1,5 @@
 -- Ranges of characters.
+use Prim.Native.Char.{code}
 use Rattle.std.specs.Prelude.{ℕ, Bool, ◌&&◌, ◌||◌, nat_le, nat_lt}
 
 -- from the first to the last
@@ -6,10 +7,10 @@ abbrev pub between : ℕ → ℕ → ℕ → Bool
 between first last c = nat_le first c && nat_le c last
 
 abbrev pub is_ascii_digit : ℕ → Bool
-is_ascii_digit c = between 48 57 c
+is_ascii_digit c = between (code "0") (code "9") c
 
 abbrev pub is_ascii_letter : ℕ → Bool
-is_ascii_letter c = between 65 90 c || between 97 122 c
+is_ascii_letter c = between (code "A") (code "Z") c || between (code "a") (code "z") c
 
 abbrev pub is_ascii : ℕ → Bool
 is_ascii c = nat_lt c 128

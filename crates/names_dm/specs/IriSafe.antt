@@ -1,4 +1,5 @@
 -- The IRI-safe form of a text (R2RML, section 7.3, with the characters of `iunreserved` of RFC 3987, section 2.2).
+use Prim.Native.Char.{code}
 use Rattle.std.specs.Prelude.{ℕ, ◌%◌, ◌==◌, ◌||◌, ◌&&◌, Bool, List, [], ◌∷◌, if◌then◌else◌, nat_lt, encode_utf8}
 use Rattle.std.specs.List.{flat_map}
 use Rattle.percent_encoding.specs.Percent.{percent_encode_byte}
@@ -7,7 +8,7 @@ use Rattle.names_dm.specs.Terminals.{is_letter_or_digit}
 
 -- an ASCII letter or digit, `-`, `.`, `_` or `~`
 abbrev pub is_unreserved : ℕ → Bool
-is_unreserved c = is_letter_or_digit c || (c == 45) || (c == 46) || (c == 95) || (c == 126)
+is_unreserved c = is_letter_or_digit c || (c == code "-") || (c == code ".") || (c == code "_") || (c == code "~")
 
 -- a character past ASCII that stands in an IRI as it is: `ucschar`
 abbrev pub is_iri_character : ℕ → Bool

@@ -1,6 +1,7 @@
 -- The IRIs of tables, columns, references and relations: the base, and after it, as text, what names them (W3C, A Direct
 -- Mapping of Relational Data to RDF: table IRI, literal property IRI, reference property IRI; relations are named in the
 -- same way).
+use Prim.Native.Char.{code}
 use Rattle.std.specs.Prelude.{ℕ, List, ◌∷◌, ◌++◌, codes, map}
 use Rattle.std.specs.List.{join_with_byte}
 use Rattle.names_dm.specs.IriSafe.{safe_form}
@@ -9,13 +10,13 @@ use Rattle.names_dm.specs.declared.names.RefName.{RefName}
 use Rattle.names_dm.specs.declared.names.RelName.{RelName}
 
 abbrev pub number_sign : ℕ
-number_sign = 35
+number_sign = code "#"
 
 abbrev pub semicolon : ℕ
-semicolon = 59
+semicolon = code ";"
 
 abbrev pub equals_sign : ℕ
-equals_sign = 61
+equals_sign = code "="
 
 -- `T`
 abbrev pub table_part : List ℕ → List ℕ

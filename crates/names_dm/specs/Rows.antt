@@ -1,5 +1,6 @@
 -- The IRIs of rows (W3C, A Direct Mapping of Relational Data to RDF: row node): the table, and each column of the key
 -- with its value.
+use Prim.Native.Char.{code}
 use Rattle.std.specs.Prelude.{ℕ, ◌≡◌, ◌≢◌, List, [], ◌∷◌, ◌++◌, map}
 use Rattle.std.specs.List.{join_with_byte}
 use Rattle.value_dm.specs.Kinds.{kind_of}
@@ -13,7 +14,7 @@ use Rattle.names_dm.specs.IriSafe.{safe_form}
 use Rattle.names_dm.specs.Names.{column_iri, equals_sign, ref_iri, rel_iri, semicolon, table_iri}
 
 abbrev pub slash : ℕ
-slash = 47
+slash = code "/"
 
 -- `A=1`
 unfoldable pub key_pair : KeyPart → List ℕ

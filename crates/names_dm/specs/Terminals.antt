@@ -1,12 +1,13 @@
 -- The texts of IRIs, blank node labels and language tags: the terminals of RDF 1.1 N-Triples, section 7 "Grammar", and
 -- the names of variables.
+use Prim.Native.Char.{code}
 use Rattle.std.specs.Prelude.{ℕ, ◌==◌, ◌||◌, ◌&&◌, Bool, false, not, List, [], ◌∷◌, if◌then◌else◌}
 use Rattle.std.specs.List.{list_any, list_all}
 use Rattle.names_dm.specs.Characters.{between, is_ascii, is_ascii_digit, is_ascii_letter}
 
 -- IRIREF: a control, a space, or one of `<`, `>`, `"`, `{`, `}`, `|`, `^`, the grave accent and `\`
 abbrev pub is_forbidden : ℕ → Bool
-is_forbidden c = between 0 32 c || (c == 60) || (c == 62) || (c == 34) || (c == 123) || (c == 125) || (c == 124) || (c == 94) || (c == 96) || (c == 92)
+is_forbidden c = between 0 (code " ") c || (c == code "<") || (c == code ">") || (c == code "\"") || (c == code "{") || (c == code "}") || (c == code "|") || (c == code "^") || (c == code "`") || (c == code "\\")
 
 -- IRIREF: what stands between the brackets, its escapes read
 unfoldable pub is_iri : List ℕ → Bool
@@ -24,18 +25,18 @@ is_pn_base c = is_ascii_letter c || between 0xC0 0xD6 c || between 0xD8 0xF6 c |
 
 -- PN_CHARS_U
 abbrev pub is_pn_u : ℕ → Bool
-is_pn_u c = is_pn_base c || (c == 95) || (c == 58)
+is_pn_u c = is_pn_base c || (c == code "_") || (c == code ":")
 
 -- PN_CHARS
 abbrev pub is_pn : ℕ → Bool
-is_pn c = is_pn_u c || (c == 45) || is_ascii_digit c || (c == 0xB7) || between 0x300 0x36F c || between 0x203F 0x2040 c
+is_pn c = is_pn_u c || (c == code "-") || is_ascii_digit c || (c == 0xB7) || between 0x300 0x36F c || between 0x203F 0x2040 c
 
 -- BLANK_NODE_LABEL: its first character, and each of the further ones
 unfoldable pub begins_label : ℕ → Bool
 begins_label c = is_pn_u c || is_ascii_digit c
 
 unfoldable pub continues_label : ℕ → Bool
-continues_label c = is_pn c || (c == 46)
+continues_label c = is_pn c || (c == code ".")
 
 -- the last character of a text that begins with c
 abbrev pub last_of : ℕ → List ℕ → ℕ
@@ -45,7 +46,7 @@ last_of c (d ∷ ds) = last_of d ds
 -- BLANK_NODE_LABEL: what follows `_:`
 abbrev pub is_label : List ℕ → Bool
 is_label [] = false
-is_label (c ∷ cs) = begins_label c && list_all continues_label cs && not (last_of c cs == 46)
+is_label (c ∷ cs) = begins_label c && list_all continues_label cs && not (last_of c cs == code ".")
 
 -- the parts of a text between its hyphens
 abbrev pub into_first : ℕ → List (List ℕ) → List (List ℕ)
@@ -54,7 +55,7 @@ into_first c (word ∷ words) = (c ∷ word) ∷ words
 
 abbrev pub hyphen_parts : List ℕ → List (List ℕ)
 hyphen_parts [] = [] ∷ []
-hyphen_parts (c ∷ cs) = if c == 45 then [] ∷ hyphen_parts cs else into_first c (hyphen_parts cs)
+hyphen_parts (c ∷ cs) = if c == code "-" then [] ∷ hyphen_parts cs else into_first c (hyphen_parts cs)
 
 abbrev pub is_letter_or_digit : ℕ → Bool
 is_letter_or_digit c = is_ascii_letter c || is_ascii_digit c
@@ -74,7 +75,7 @@ is_tag text = are_tag_parts (hyphen_parts text)
 
 -- a variable's name: one or more ASCII letters, digits and `_` (within VARNAME of SPARQL 1.1 Query, section 19.8)
 abbrev pub is_variable_character : ℕ → Bool
-is_variable_character c = is_letter_or_digit c || (c == 95)
+is_variable_character c = is_letter_or_digit c || (c == code "_")
 
 unfoldable pub is_variable : List ℕ → Bool
 is_variable text = is_word_of is_variable_character text

@@ -26,19 +26,19 @@ impl Model for Iri {
 }
 
 // Whether an IRI cannot hold the character.
-fn is_forbidden(c: u32) -> bool
+fn is_forbidden(c: char) -> bool
     ensures { result ≡ is_forbidden c }
 {
-    between(0, 32, c)
-        | (c == 60)
-        | (c == 62)
-        | (c == 34)
-        | (c == 123)
-        | (c == 125)
-        | (c == 124)
-        | (c == 94)
-        | (c == 96)
-        | (c == 92)
+    between('\0', ' ', c)
+        | (c == '<')
+        | (c == '>')
+        | (c == '"')
+        | (c == '{')
+        | (c == '}')
+        | (c == '|')
+        | (c == '^')
+        | (c == '`')
+        | (c == '\\')
 }
 
 /// Whether the text is an IRI's.
@@ -47,7 +47,7 @@ pub fn is_iri(text: &Text) -> bool
 {
     let mut bad = false;
     for c in text.as_str().chars() {
-        bad |= is_forbidden(c as u32);
+        bad |= is_forbidden(c);
     }
     !bad
 }

@@ -6,27 +6,27 @@ use percent_encoding::{NON_ALPHANUMERIC, percent_decode_str, utf8_percent_encode
 use std::alloc::{AllocError, Global};
 use thiserror::Error;
 
-fn is_unreserved(c: u32) -> bool
+fn is_unreserved(c: char) -> bool
     ensures { result ≡ is_unreserved c }
 {
-    is_letter_or_digit(c) | (c == 45) | (c == 46) | (c == 95) | (c == 126)
+    is_letter_or_digit(c) | (c == '-') | (c == '.') | (c == '_') | (c == '~')
 }
 
-fn is_iri_character(c: u32) -> bool
+fn is_iri_character(c: char) -> bool
     ensures { result ≡ is_iri_character c }
 {
-    between(0xA0, 0xD7FF, c)
-        | between(0xF900, 0xFDCF, c)
-        | between(0xFDF0, 0xFFEF, c)
-        | (between(0x10000, 0xDFFFD, c) & (c % 0x10000 < 0xFFFE))
-        | between(0xE1000, 0xEFFFD, c)
+    between('\u{A0}', '\u{D7FF}', c)
+        | between('\u{F900}', '\u{FDCF}', c)
+        | between('\u{FDF0}', '\u{FFEF}', c)
+        | (between('\u{10000}', '\u{DFFFD}', c) & (c as u32 % 0x10000 < 0xFFFE))
+        | between('\u{E1000}', '\u{EFFFD}', c)
 }
 
 // Whether the character stands for itself in an IRI.
 fn stays(c: char) -> bool
     ensures { result ≡ stays c }
 {
-    is_unreserved(c as u32) | is_iri_character(c as u32)
+    is_unreserved(c) | is_iri_character(c)
 }
 
 // Adds the safe form of one character.

@@ -27,55 +27,55 @@ impl Model for Label {
 }
 
 // PN_CHARS_BASE
-fn is_pn_base(c: u32) -> bool
+fn is_pn_base(c: char) -> bool
     ensures { result ≡ is_pn_base c }
 {
     is_ascii_letter(c)
-        | between(0xC0, 0xD6, c)
-        | between(0xD8, 0xF6, c)
-        | between(0xF8, 0x2FF, c)
-        | between(0x370, 0x37D, c)
-        | between(0x37F, 0x1FFF, c)
-        | between(0x200C, 0x200D, c)
-        | between(0x2070, 0x218F, c)
-        | between(0x2C00, 0x2FEF, c)
-        | between(0x3001, 0xD7FF, c)
-        | between(0xF900, 0xFDCF, c)
-        | between(0xFDF0, 0xFFFD, c)
-        | between(0x10000, 0xEFFFF, c)
+        | between('\u{C0}', '\u{D6}', c)
+        | between('\u{D8}', '\u{F6}', c)
+        | between('\u{F8}', '\u{2FF}', c)
+        | between('\u{370}', '\u{37D}', c)
+        | between('\u{37F}', '\u{1FFF}', c)
+        | between('\u{200C}', '\u{200D}', c)
+        | between('\u{2070}', '\u{218F}', c)
+        | between('\u{2C00}', '\u{2FEF}', c)
+        | between('\u{3001}', '\u{D7FF}', c)
+        | between('\u{F900}', '\u{FDCF}', c)
+        | between('\u{FDF0}', '\u{FFFD}', c)
+        | between('\u{10000}', '\u{EFFFF}', c)
 }
 
 // PN_CHARS_U
-fn is_pn_u(c: u32) -> bool
+fn is_pn_u(c: char) -> bool
     ensures { result ≡ is_pn_u c }
 {
-    is_pn_base(c) | (c == 95) | (c == 58)
+    is_pn_base(c) | (c == '_') | (c == ':')
 }
 
 // PN_CHARS
-fn is_pn(c: u32) -> bool
+fn is_pn(c: char) -> bool
     ensures { result ≡ is_pn c }
 {
     is_pn_u(c)
-        | (c == 45)
+        | (c == '-')
         | is_ascii_digit(c)
-        | (c == 0xB7)
-        | between(0x300, 0x36F, c)
-        | between(0x203F, 0x2040, c)
+        | (c == '\u{B7}')
+        | between('\u{300}', '\u{36F}', c)
+        | between('\u{203F}', '\u{2040}', c)
 }
 
 #[tactic(auto, unfolding(crate::specs::Terminals::begins_label))]
-fn begins_label(c: u32) -> bool
+fn begins_label(c: char) -> bool
     ensures { result ≡ begins_label c }
 {
     is_pn_u(c) | is_ascii_digit(c)
 }
 
 #[tactic(auto, unfolding(crate::specs::Terminals::continues_label))]
-fn continues_label(c: u32) -> bool
+fn continues_label(c: char) -> bool
     ensures { result ≡ continues_label c }
 {
-    is_pn(c) | (c == 46)
+    is_pn(c) | (c == '.')
 }
 
 // Whether the text is a label's.
@@ -84,13 +84,13 @@ fn is_label(text: &Text) -> bool
 {
     let mut good = true;
     let mut begun = false;
-    let mut last = 46;
+    let mut last = '.';
     for c in text.as_str().chars() {
-        good &= (begun & continues_label(c as u32)) | (!begun & begins_label(c as u32));
+        good &= (begun & continues_label(c)) | (!begun & begins_label(c));
         begun = true;
-        last = c as u32;
+        last = c;
     }
-    good & (last != 46)
+    good & (last != '.')
 }
 
 impl Label {

@@ -52,7 +52,7 @@ fn is_name(text: &Text) -> bool
 {
     match text.as_str().chars().next() {
         None => false,
-        Some(c) => c as u32 != 0xFEFF,
+        Some(c) => c != '\u{FEFF}',
     }
 }
 

@@ -28,7 +28,7 @@ impl Model for Tag {
 }
 
 // Whether the character stands in a tag's first part, or in a further one.
-fn in_part(first: bool, c: u32) -> bool
+fn in_part(first: bool, c: char) -> bool
     ensures { result ≡ (first && is_ascii_letter c) || (not first && is_letter_or_digit c) }
 {
     (first & is_ascii_letter(c)) | (!first & is_letter_or_digit(c))
@@ -42,8 +42,8 @@ fn is_tag(text: &Text) -> bool
     let mut first = true;
     let mut empty = true;
     for c in text.as_str().chars() {
-        let hyphen = c as u32 == 45;
-        good &= (hyphen & !empty) | (!hyphen & in_part(first, c as u32));
+        let hyphen = c == '-';
+        good &= (hyphen & !empty) | (!hyphen & in_part(first, c));
         first &= !hyphen;
         empty = hyphen;
     }

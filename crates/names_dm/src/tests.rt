@@ -429,13 +429,21 @@ fn rows(rt: HostRuntime) -> Result<(), Fail> {
     Ok(())
 }
 
+fn variable_of(alloc: Global, name: &str) -> Result<Var, Fail> {
+    if name.is_empty() {
+        return Err("no name".into());
+    }
+    Ok(variable(alloc, name)?)
+}
+
 #[test]
 fn labels_and_variables(rt: HostRuntime) -> Result<(), Fail> {
     let alloc = rt.alloc();
     assert_eq!(rt; row_label(alloc, 1, 20)?.as_str(), "t1r20");
-    assert_eq!(rt; variable(alloc, "ID")?.as_str(), "ID");
-    assert_eq!(rt; variable(alloc, "a_b")?.as_str(), "a_5Fb");
-    assert_eq!(rt; variable(alloc, "é ")?.as_str(), "_C3_A9_20");
+    assert_eq!(rt; variable_of(alloc, "ID")?.as_str(), "ID");
+    assert_eq!(rt; variable_of(alloc, "a_b")?.as_str(), "a_5Fb");
+    assert_eq!(rt; variable_of(alloc, "é ")?.as_str(), "_C3_A9_20");
+    assert_eq!(rt; variable_of(alloc, "_r")?.as_str(), "_5Fr");
     Ok(())
 }
 
@@ -511,16 +519,23 @@ fn is_made_of(alloc: Global, triple: &Triple, subject: &str, object: &str) -> Re
     )
 }
 
+// Whether a triple of the subject and the object keeps them both.
+fn keeps_terms(alloc: Global, subject: &str, object: &str) -> Result<bool, Fail> {
+    let triple = triple(alloc, subject, object)?.ok_or("no triple")?;
+    is_made_of(alloc, &triple, subject, object)
+}
+
+fn is_triple(alloc: Global, subject: &str) -> Result<bool, Fail> {
+    Ok(triple(alloc, subject, "http://a/o")?.is_some())
+}
+
 #[test]
 fn triples(rt: HostRuntime) -> Result<(), Fail> {
-    let alloc = rt.alloc();
     for object in terms().split(' ') {
-        let triple = triple(alloc, "_:z", object)?.ok_or("no triple")?;
-        assert!(rt; is_made_of(alloc, &triple, "_:z", object)?, "{object}");
-        assert!(rt; !is_made_of(alloc, &triple, "_:y", object)?, "{object}");
+        assert!(rt; keeps_terms(rt.alloc(), "_:z", object)?, "{object}");
     }
-    assert!(rt; triple(alloc, "http://a/s", "http://a/o")?.is_some());
-    assert!(rt; triple(alloc, "\"x", "http://a/o")?.is_none());
+    assert!(rt; is_triple(rt.alloc(), "http://a/s")?);
+    assert!(rt; !is_triple(rt.alloc(), "\"x")?);
     Ok(())
 }
 
@@ -544,10 +559,19 @@ fn copies_tag(alloc: Global) -> Result<bool, Fail> {
     is_copied(alloc, &Tag::new(text(alloc, "en")?).ok_or("no tag")?)
 }
 
-fn vars(alloc: Global) -> Result<Vars, AllocError> {
+fn var(alloc: Global, letters: &str) -> Result<Var, Fail> {
+    Ok(Var::new(text(alloc, letters)?).ok_or("no variable")?)
+}
+
+fn add_var(vars: &mut Vars, var: Var) -> Result<(), AllocError> {
+    vars.push(var)?;
+    Ok(())
+}
+
+fn vars(alloc: Global) -> Result<Vars, Fail> {
     let mut vars = Vars::new(alloc);
-    vars.push(variable(alloc, "ID")?)?;
-    vars.push(variable(alloc, "a b")?)?;
+    add_var(&mut vars, var(alloc, "ID")?)?;
+    add_var(&mut vars, var(alloc, "a_20b")?)?;
     Ok(vars)
 }
 
@@ -578,12 +602,14 @@ fn copies_literal(alloc: Global, letters: &str) -> Result<bool, Fail> {
     is_copied(alloc, &literal(alloc, "x", letters)?)
 }
 
+fn column_name(alloc: Global) -> Result<ColumnName, AllocError> {
+    let table = text(alloc, "T")?;
+    let column = text(alloc, "a b")?;
+    Ok(ColumnName { table, column })
+}
+
 fn copies_column(alloc: Global) -> Result<bool, Fail> {
-    let column = ColumnName {
-        table: text(alloc, "T")?,
-        column: text(alloc, "a b")?,
-    };
-    is_copied(alloc, &column)
+    is_copied(alloc, &column_name(alloc)?)
 }
 
 fn copies_reference(alloc: Global) -> Result<bool, Fail> {

@@ -25,10 +25,10 @@ impl Model for Var {
     ghost inverse = { λ text. record { text = text } };
 }
 
-fn is_variable_character(c: u32) -> bool
+fn is_variable_character(c: char) -> bool
     ensures { result ≡ is_variable_character c }
 {
-    is_letter_or_digit(c) | (c == 95)
+    is_letter_or_digit(c) | (c == '_')
 }
 
 // Whether the text is a variable's name.
@@ -38,7 +38,7 @@ fn is_variable(text: &Text) -> bool
     let mut bad = false;
     let mut begun = false;
     for c in text.as_str().chars() {
-        bad |= !is_variable_character(c as u32);
+        bad |= !is_variable_character(c);
         begun = true;
     }
     begun & !bad

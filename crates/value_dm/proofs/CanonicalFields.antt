@@ -151,14 +151,6 @@ field_spells (value.Binary b) h = (
     binary_word : (m n : ℕ) → m ≡ 120 → n ≡ 78 → m ≡ n → ⊥
     binary_word m n p q e = omega arith
 
-pub field_of_text : (v : Value) → kind.Text ≡ kind_of v → canonical_field (Some v) ≡ escaped (lexical_form v)
-field_of_text (value.Text t) e = refl
-field_of_text v e = cc e
-
-pub field_of_binary : (v : Value) → kind.Binary ≡ kind_of v → canonical_field (Some v) ≡ 92 ∷ 120 ∷ lexical_form v
-field_of_binary (value.Binary b) e = refl
-field_of_binary v e = cc e
-
 pub field_of_other : (v : Value) → (kind_of v ≡ kind.Text → ⊥) → (kind_of v ≡ kind.Binary → ⊥) → canonical_field (Some v) ≡ lexical_form v
 field_of_other (value.Text t) text binary = absurd (text refl)
 field_of_other (value.Binary b) text binary = absurd (binary refl)

@@ -116,7 +116,3 @@ digits_value_after-more n ds i h =
 pub digit_at_value : (ds : List ℕ) (i : ℕ) → AllDigits 10 ds → i < length ds → (digit_value (get_or ds i 0) + 48 ≡ get_or ds i 0) × (get_or ds i 0 < 58)
 digit_at_value ds i all h =
     let range = digit_at ds i all h in (digit_value_digit (get_or ds i 0) range, omega arith)
-
--- a zero more at the end
-pub replicate-end : (front : List ℕ) (k : ℕ) → (front ++ 48 ∷ []) ++ replicate k 48 ≡ front ++ replicate (suc k) 48
-replicate-end front k = append_assoc front (48 ∷ []) (replicate k 48)

@@ -83,14 +83,6 @@ unescaped_other text utf8 other = by_test (starts_with nat_eq (chars text) (code
         two_backslashes : (cs : List ℕ) → encode_utf8_all (92 ∷ 92 ∷ cs) ≡ 92 ∷ 92 ∷ encode_utf8_all cs
         two_backslashes cs = rw (encode_ascii 92 (lit< tt)) refl
 
-pub unescaped_kind : (k : Kind) (field : List ℕ) → k ≢ kind.Text → unescaped k field ≡ field
-unescaped_kind kind.Text field h = absurd (h refl)
-unescaped_kind k field h = refl
-
-backslash_ascii : IsAscii (92 ∷ [])
-backslash_ascii zero = omega arith
-backslash_ascii (suc i) = omega arith
-
 -- an ASCII character in front
 pub writes_cons : (c : ℕ) (text cs : List ℕ) → c < 128 → IsUtf8 text → Writes text cs → Writes (c ∷ text) (c ∷ cs)
 writes_cons c text cs small utf8 h =

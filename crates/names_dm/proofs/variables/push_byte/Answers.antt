@@ -7,7 +7,7 @@ use Rattle.names_dm.proofs.variables.push_byte.Goals as goal
 
 pub returns-then-is_letter_or_digit : goal.returns-then-is_letter_or_digit
 returns-then-is_letter_or_digit c =
-    let letter : is_letter_or_digit c.args.byte ≡ true = rw c.from.ensures at (sym c.is_letter_or_digit.ensures ∙ c.if-is_letter_or_digit.true) in
+    let letter : is_letter_or_digit c.args.byte ≡ true = sym c.is_letter_or_digit.ensures ∙ c.if-is_letter_or_digit.true in
     rw (letter_stays c.args.byte letter) (c.in_ok-push.ensures.bytes ∙ ap (λ (t : List ℕ). string_bytes c.args.out.now ++ t) (encode_one c.args.byte (letter_small c.args.byte letter)))
 
 three_more : (xs : List ℕ) (a b c : ℕ) → ((xs ++ a ∷ []) ++ b ∷ []) ++ c ∷ [] ≡ xs ++ a ∷ b ∷ c ∷ []
@@ -16,7 +16,7 @@ three_more xs a b c = append_assoc (xs ++ a ∷ []) (b ∷ []) (c ∷ []) ∙ ap
 pub returns : goal.returns
 returns c =
     let byte = c.args.byte in
-    let other : is_letter_or_digit byte ≡ false = rw c.from.ensures at (sym c.is_letter_or_digit.ensures ∙ c.if-is_letter_or_digit.false) in
+    let other : is_letter_or_digit byte ≡ false = sym c.is_letter_or_digit.ensures ∙ c.if-is_letter_or_digit.false in
     let high = digit_glyph true (byte / 16) in
     let low = digit_glyph true (byte % 16) in
     rw (

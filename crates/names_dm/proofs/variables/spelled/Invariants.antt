@@ -1,6 +1,6 @@
 use Rattle.std.proofs.Common.{◌≡◌, take, string_bytes, flat_map}
 use Rattle.names_dm.specs.Variables.{variable_byte}
-use Rattle.names_dm.proofs.variables.variable.Given as goal
+use Rattle.names_dm.proofs.variables.spelled.Given as goal
 
 -- the bytes so far are written
 abbrev pub invariant-loop-byte : goal.invariant-loop-byte
