@@ -3,6 +3,9 @@ pub mod Shelves
 pub mod Sinks
 pub mod Files
 pub mod Putting
+pub mod Calls
 pub mod Transfers
+pub mod Streams
+pub mod Folders
 pub mod Storing
 pub mod Failing

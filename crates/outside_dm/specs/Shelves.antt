@@ -3,7 +3,7 @@ use Rattle.std.specs.Prelude.{◌≡◌, ◌≢◌, ℕ, ◌<◌, ◌≤◌, Lis
 use Rattle.std.specs.Ordering.{nat_cmp}
 use Rattle.std.specs.FinMap.{FinMap, get, insert}
 use Rattle.std.specs.Cmp.Lexicographic.{slice_cmp}
-use Rattle.outside_dm.specs.Counts.{Rose}
+use Rattle.outside_dm.specs.Counts.{Rose, counted}
 use Rattle.outside_dm.specs.declared.shelf.LoadError.{LoadError}
 use Rattle.outside_dm.specs.declared.shelf.LoadError.TheVariants.{Absent, Failed as LoadFailed, TooLong, Memory as LoadMemory}
 use Rattle.outside_dm.specs.declared.shelf.StoreError.{StoreError}
@@ -94,6 +94,14 @@ pub record LoadKeeps (old new : ShelfState) : Type 0 where
   pub absences : old.absences ≤ new.absences
   pub overlongs : old.overlongs ≤ new.overlongs
 
+-- the state after a load, exactly: each count rises by one at its own answer, a load that failed leaves its name, and all else stands
+abbrev pub after_load : {T : Type 0} → ShelfState → List ℕ → Result T LoadError → ShelfState
+after_load old name (Ok _) = old
+after_load old name (Err Absent) = record old { absences = counted old.absences }
+after_load old name (Err LoadFailed) = record old { load_faults = counted old.load_faults; failed = name }
+after_load old name (Err TooLong) = record old { overlongs = counted old.overlongs }
+after_load old name (Err LoadMemory) = old
+
 -- ---- a store
 
 -- told files have these bytes under the name, and are else as they were
@@ -121,3 +129,9 @@ pub record StoreKeeps (old new : ShelfState) : Type 0 where
   pub load_faults : new.load_faults ≡ old.load_faults
   pub absences : new.absences ≡ old.absences
   pub overlongs : new.overlongs ≡ old.overlongs
+
+-- the state after a store with these files, exactly: the count of faults rises by one at its own answer, and all else stands
+abbrev pub after_store : {T : Type 0} → ShelfState → Option Files → Result T StoreError → ShelfState
+after_store old files (Ok _) = record old { files = files }
+after_store old files (Err StoreFailed) = record old { files = files; store_faults = counted old.store_faults }
+after_store old files (Err StoreMemory) = record old { files = files }

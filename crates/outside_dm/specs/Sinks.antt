@@ -1,7 +1,7 @@
 -- What contracts see of a sink, and what a put does.
 use Rattle.std.specs.Prelude.{◌≡◌, ℕ, ◌≤◌, List, take, Option, Result, Ok, Err}
 use Rattle.std.specs.Io.KnownBytes.{Appends}
-use Rattle.outside_dm.specs.Counts.{Rose}
+use Rattle.outside_dm.specs.Counts.{Rose, counted}
 use Rattle.outside_dm.specs.declared.sink.PutError.{PutError}
 use Rattle.outside_dm.specs.declared.sink.PutError.TheVariants.{Failed, Memory}
 
@@ -31,3 +31,9 @@ abbrev pub CountsShortage : {T : Type 0} → SinkState → SinkState → Result 
 CountsShortage old new (Ok _) = new.shortages ≡ old.shortages
 CountsShortage old new (Err Failed) = new.shortages ≡ old.shortages
 CountsShortage old new (Err Memory) = Rose old.shortages new.shortages
+
+-- the counts of one put, exactly: each rises by one at its own answer, and stands else
+abbrev pub CountsPut : {T : Type 0} → SinkState → SinkState → Result T PutError → Type 0
+CountsPut old new (Ok _) = (new.faults ≡ old.faults) × (new.shortages ≡ old.shortages)
+CountsPut old new (Err Failed) = (new.faults ≡ counted old.faults) × (new.shortages ≡ old.shortages)
+CountsPut old new (Err Memory) = (new.faults ≡ old.faults) × (new.shortages ≡ counted old.shortages)

@@ -4,6 +4,7 @@
 
 mod files;
 mod folder_shelf;
+mod host;
 mod memory_shelf;
 mod memory_sink;
 mod no_fault_shelf;
@@ -17,6 +18,7 @@ mod transfers;
 
 pub use files::{FileList, NamedFile};
 pub use folder_shelf::FolderShelf;
+pub use host::{Folder, Reader, Writer};
 pub use memory_shelf::{Calls, MemoryShelf};
 pub use memory_sink::{Cut, Cuts, MemorySink};
 pub use no_fault_shelf::NoFaultShelf;

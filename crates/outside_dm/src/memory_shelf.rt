@@ -2,7 +2,7 @@ ghost use Rattle.std.specs.Prelude.{◌≡◌, ◌+◌, Some, [], IsSomeAnd, OnO
 ghost use Rattle.std.specs.Option.{option_copied};
 ghost use Rattle.std.specs.FinMap.{get};
 ghost use Rattle.outside_dm.specs.Counts.{counted};
-ghost use Rattle.outside_dm.specs.Shelves.{AppendsFile, LoadCounted, NamesFailure, OnlyWhereAbsent, OnlyWhereTooLong, WhereAbsent, WhereTooLong, LoadKeeps, StoreEnds, StoreKeeps};
+ghost use Rattle.outside_dm.specs.Shelves.{AppendsFile, LoadCounted, NamesFailure, OnlyWhereAbsent, OnlyWhereTooLong, WhereAbsent, WhereTooLong, LoadKeeps, StoreEnds, StoreKeeps, after_load, after_store};
 ghost use Rattle.outside_dm.specs.Files.{files_of};
 ghost use Rattle.outside_dm.specs.Failing.{shelf_calls, shelf_state, LoadsByList, StoresByList};
 
@@ -73,15 +73,13 @@ impl Shelf for MemoryShelf {
         ensures where_absent { WhereAbsent (shelf_state self.old) (shelf_state self.new) name.now result }
         ensures where_too_long { WhereTooLong (shelf_state self.old) (shelf_state self.new) name.now result }
         ensures kept { LoadKeeps (shelf_state self.old) (shelf_state self.new) }
+        ensures state { shelf_state self.new ≡ after_load (shelf_state self.old) name.now result }
         ensures numbered { shelf_calls self.new ≡ record (shelf_calls self.old) { loads = counted (shelf_calls self.old).loads } }
         ensures by_list { LoadsByList (shelf_calls self.old) (shelf_state self.old) (shelf_state self.new) result }
     {
         self.loads = self.loads.saturating_add(1);
         if self.fail_loads.as_slice().contains(&self.loads) {
-            let Ok(failed) = String::from_str(self.alloc, name) else {
-                return Err(LoadError::Memory);
-            };
-            self.failed = failed;
+            self.failed = String::from_str(self.alloc, name)?;
             self.load_faults = self.load_faults.saturating_add(1);
             return Err(LoadError::Failed);
         }
@@ -95,10 +93,8 @@ impl Shelf for MemoryShelf {
                     self.overlongs = self.overlongs.saturating_add(1);
                     return Err(LoadError::TooLong);
                 }
-                match into.extend_from_slice(bytes) {
-                    Ok(()) => Ok(()),
-                    Err(_) => Err(LoadError::Memory),
-                }
+                into.extend_from_slice(bytes)?;
+                Ok(())
             }
         }
     }
@@ -106,6 +102,7 @@ impl Shelf for MemoryShelf {
     fn store(&mut self, name: &str, bytes: &[u8]) -> Result<(), StoreError>
         ensures ends { StoreEnds (shelf_state self.old) (shelf_state self.new) name.now bytes.now result }
         ensures kept { StoreKeeps (shelf_state self.old) (shelf_state self.new) }
+        ensures state { shelf_state self.new ≡ after_store (shelf_state self.old) (shelf_state self.new).files result }
         ensures unchanged { OnErr result ((shelf_state self.new).files ≡ (shelf_state self.old).files) }
         ensures numbered { shelf_calls self.new ≡ record (shelf_calls self.old) { stores = counted (shelf_calls self.old).stores } }
         ensures by_list { StoresByList (shelf_calls self.old) (shelf_state self.old) (shelf_state self.new) result }
@@ -115,9 +112,7 @@ impl Shelf for MemoryShelf {
             self.store_faults = self.store_faults.saturating_add(1);
             return Err(StoreError::Failed);
         }
-        match self.files.replace(name, bytes) {
-            Ok(()) => Ok(()),
-            Err(_) => Err(StoreError::Memory),
-        }
+        self.files.replace(name, bytes)?;
+        Ok(())
     }
 }

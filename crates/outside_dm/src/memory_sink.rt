@@ -1,6 +1,6 @@
 ghost use Rattle.std.specs.Prelude.{◌≡◌, Some, [], take};
 ghost use Rattle.outside_dm.specs.Counts.{counted};
-ghost use Rattle.outside_dm.specs.Sinks.{Puts, SinkKeeps, CountsShortage};
+ghost use Rattle.outside_dm.specs.Sinks.{Puts, SinkKeeps, CountsShortage, CountsPut};
 ghost use Rattle.outside_dm.specs.Failing.{sink_calls, sink_state, kept_at, PutsByList};
 
 use crate::sink::{PutError, Sink};
@@ -64,6 +64,7 @@ impl Sink for MemorySink {
         ensures puts { Puts piece.now (sink_state self.old) (sink_state self.new) result }
         ensures shortage { CountsShortage (sink_state self.old) (sink_state self.new) result }
         ensures kept { SinkKeeps (sink_state self.old) (sink_state self.new) }
+        ensures counts { CountsPut (sink_state self.old) (sink_state self.new) result }
         ensures numbered { sink_calls self.new ≡ record (sink_calls self.old) { puts = counted (sink_calls self.old).puts } }
         ensures by_list { PutsByList (sink_calls self.old) piece.now (sink_state self.old) (sink_state self.new) result }
     {

@@ -56,18 +56,14 @@ impl Shelf for NoFaultShelf {
                     self.overlongs = self.overlongs.saturating_add(1);
                     return Err(LoadError::TooLong);
                 }
-                match into.extend_from_slice(bytes) {
-                    Ok(()) => Ok(()),
-                    Err(_) => Err(LoadError::Memory),
-                }
+                into.extend_from_slice(bytes)?;
+                Ok(())
             }
         }
     }
 
     fn store(&mut self, name: &str, bytes: &[u8]) -> Result<(), StoreError> {
-        match self.files.replace(name, bytes) {
-            Ok(()) => Ok(()),
-            Err(_) => Err(StoreError::Memory),
-        }
+        self.files.replace(name, bytes)?;
+        Ok(())
     }
 }

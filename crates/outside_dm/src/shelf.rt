@@ -1,5 +1,9 @@
 ghost use Rattle.std.specs.Prelude.{◌≡◌, OnOk, OnErr};
+ghost use Rattle.outside_dm.specs.declared.shelf.LoadError.TheVariants as load_error;
+ghost use Rattle.outside_dm.specs.declared.shelf.StoreError.TheVariants as store_error;
 
+use std::alloc::AllocError;
+use std::convert::From;
 use thiserror::Error;
 
 /// The length of the longest file that a load takes, in bytes.
@@ -37,9 +41,25 @@ pub enum StoreError {
     Memory,
 }
 
+impl From<AllocError> for LoadError {
+    ghost from_gives = { λ _ error. error ≡ load_error.Memory };
+
+    fn from(_refused: AllocError) -> LoadError {
+        LoadError::Memory
+    }
+}
+
+impl From<AllocError> for StoreError {
+    ghost from_gives = { λ _ error. error ≡ store_error.Memory };
+
+    fn from(_refused: AllocError) -> StoreError {
+        StoreError::Memory
+    }
+}
+
 /// A device that keeps files by name.
 pub trait Shelf {
-    ghost use Rattle.outside_dm.specs.Shelves.{ShelfState, AppendsFile, LoadCounted, NamesFailure, OnlyWhereAbsent, OnlyWhereTooLong, WhereAbsent, WhereTooLong, LoadKeeps, StoreEnds, StoreKeeps};
+    ghost use Rattle.outside_dm.specs.Shelves.{ShelfState, AppendsFile, LoadCounted, NamesFailure, OnlyWhereAbsent, OnlyWhereTooLong, WhereAbsent, WhereTooLong, LoadKeeps, StoreEnds, StoreKeeps, after_load, after_store};
 
     ghost state: { Self → ShelfState };
 
@@ -54,11 +74,13 @@ pub trait Shelf {
         ensures only_where_too_long { OnlyWhereTooLong (state self.old) name.now result }
         ensures where_absent { WhereAbsent (state self.old) (state self.new) name.now result }
         ensures where_too_long { WhereTooLong (state self.old) (state self.new) name.now result }
-        ensures kept { LoadKeeps (state self.old) (state self.new) };
+        ensures kept { LoadKeeps (state self.old) (state self.new) }
+        ensures state { state self.new ≡ after_load (state self.old) name.now result };
 
     /// Replaces the bytes of the file, or makes it. A refusal leaves open what this name holds,
     /// and every other name as it was.
     fn store(&mut self, name: &str, bytes: &[u8]) -> Result<(), StoreError>
         ensures ends { StoreEnds (state self.old) (state self.new) name.now bytes.now result }
-        ensures kept { StoreKeeps (state self.old) (state self.new) };
+        ensures kept { StoreKeeps (state self.old) (state self.new) }
+        ensures state { state self.new ≡ after_store (state self.old) (state self.new).files result };
 }

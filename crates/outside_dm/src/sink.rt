@@ -1,3 +1,8 @@
+ghost use Rattle.std.specs.Prelude.{◌≡◌};
+ghost use Rattle.outside_dm.specs.declared.sink.PutError.TheVariants.{Memory};
+
+use std::alloc::AllocError;
+use std::convert::From;
 use thiserror::Error;
 
 /// Why a put was refused.
@@ -12,9 +17,17 @@ pub enum PutError {
     Memory,
 }
 
+impl From<AllocError> for PutError {
+    ghost from_gives = { λ _ error. error ≡ Memory };
+
+    fn from(_refused: AllocError) -> PutError {
+        PutError::Memory
+    }
+}
+
 /// A device that takes bytes in order.
 pub trait Sink {
-    ghost use Rattle.outside_dm.specs.Sinks.{SinkState, Puts, SinkKeeps, CountsShortage};
+    ghost use Rattle.outside_dm.specs.Sinks.{SinkState, Puts, SinkKeeps, CountsShortage, CountsPut};
 
     ghost state: { Self → SinkState };
 
@@ -22,5 +35,6 @@ pub trait Sink {
     fn put(&mut self, piece: &[u8]) -> Result<(), PutError>
         ensures puts { Puts piece.now (state self.old) (state self.new) result }
         ensures shortage { CountsShortage (state self.old) (state self.new) result }
-        ensures kept { SinkKeeps (state self.old) (state self.new) };
+        ensures kept { SinkKeeps (state self.old) (state self.new) }
+        ensures counts { CountsPut (state self.old) (state self.new) result };
 }

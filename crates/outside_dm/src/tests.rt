@@ -6,9 +6,9 @@ use crate::{
     NoFaultShelf, NoFaultSink, PutError, Shelf, Sink, StoreError, StreamSink,
 };
 use std::alloc::{AllocError, Global};
-use std::io;
-use std::io::{ErrorKind, Read, Write};
+use std::io::{Read, Write};
 use std::test::Fail;
+use std::{fs, io};
 use value_dm::{Bytes, Text, TryCopy};
 
 /// A file of this name with these bytes.
@@ -156,20 +156,25 @@ fn sinks_in_memory(rt: HostRuntime) -> Result<(), Fail> {
     Ok(())
 }
 
-/// Takes one byte a write, up to a number of writes, and may fail at its flush.
+/// Takes one byte a write, up to a number of writes, and then nothing or fails with this error of
+/// the system; fails at its flush where it is told to.
 #[derive(Drop)]
 struct Slow {
     bytes: Vec<u8>,
     writes: usize,
     most: usize,
-    flushes: bool,
+    write_error: Option<i32>,
+    flush_error: Option<i32>,
 }
 
 impl Write for Slow {
     fn write(&mut self, piece: &[u8]) -> io::Result<usize> {
         self.writes = self.writes.saturating_add(1);
         if self.writes > self.most {
-            return Ok(0);
+            return match self.write_error {
+                None => Ok(0),
+                Some(code) => Err(io::Error::from_raw_os_error(code)),
+            };
         }
         match piece.first() {
             None => Ok(0),
@@ -181,13 +186,17 @@ impl Write for Slow {
     }
 
     fn flush(&mut self) -> io::Result<()> {
-        if self.flushes {
-            Ok(())
-        } else {
-            Err(io::Error::from(ErrorKind::BrokenPipe))
+        match self.flush_error {
+            None => Ok(()),
+            Some(code) => Err(io::Error::from_raw_os_error(code)),
         }
     }
 }
+
+/// The system's error where a device is full, and where memory ran out.
+const FULL: i32 = 28;
+
+const NO_MEMORY: i32 = 12;
 
 #[test]
 fn a_sink_over_a_writer(rt: HostRuntime) -> Result<(), Fail> {
@@ -199,16 +208,48 @@ fn a_sink_over_a_writer(rt: HostRuntime) -> Result<(), Fail> {
     drop(sink);
     assert!(rt; held.as_slice() == b"abc".as_slice());
     let cases = [
-        (9, true, Ok(()), b"abc".as_slice(), 3),
-        (2, true, Err(PutError::Failed), b"ab".as_slice(), 3),
-        (9, false, Err(PutError::Failed), b"abc".as_slice(), 3),
+        (9, None, None, Ok(()), b"abc".as_slice(), 3),
+        (2, None, None, Err(PutError::Failed), b"ab".as_slice(), 3),
+        (
+            1,
+            Some(FULL),
+            None,
+            Err(PutError::Failed),
+            b"a".as_slice(),
+            2,
+        ),
+        (
+            1,
+            Some(NO_MEMORY),
+            None,
+            Err(PutError::Memory),
+            b"a".as_slice(),
+            2,
+        ),
+        (
+            9,
+            None,
+            Some(FULL),
+            Err(PutError::Failed),
+            b"abc".as_slice(),
+            3,
+        ),
+        (
+            9,
+            None,
+            Some(NO_MEMORY),
+            Err(PutError::Memory),
+            b"abc".as_slice(),
+            3,
+        ),
     ];
-    for (most, flushes, answer, bytes, writes) in cases {
+    for (most, write_error, flush_error, answer, bytes, writes) in cases {
         let mut slow = Slow {
             bytes: Vec::new(alloc),
             writes: 0,
             most,
-            flushes,
+            write_error,
+            flush_error,
         };
         let mut sink = StreamSink::new(&mut slow);
         assert!(rt; sink.put(b"abc") == answer);
@@ -240,20 +281,23 @@ fn a_shelf_over_a_folder(rt: HostRuntime) -> Result<(), Fail> {
         assert_eq!(rt; into.len(), count);
         assert!(rt; into.as_slice().iter().all(|&byte| byte == 7));
     }
+    fs::remove_dir_all(&rt, "stored")?;
     Ok(())
 }
 
-/// Gives its bytes one a read, and fails behind the last where it is told to.
+/// Gives its bytes one a read, and fails behind the last with this error of the system.
 #[derive(Drop)]
 struct Drip<'a> {
     bytes: &'a [u8],
-    fails: bool,
+    error: Option<i32>,
 }
 
 impl Read for Drip<'_> {
     fn read(&mut self, buffer: &mut [u8]) -> io::Result<usize> {
-        if self.fails && self.bytes.is_empty() {
-            return Err(io::Error::from(ErrorKind::ConnectionReset));
+        if let Some(code) = self.error {
+            if self.bytes.is_empty() {
+                return Err(io::Error::from_raw_os_error(code));
+            }
         }
         let most = buffer.len().min(1);
         self.bytes.read(&mut buffer[..most])
@@ -263,14 +307,15 @@ impl Read for Drip<'_> {
 #[test]
 fn readers_that_drip_and_fail(rt: HostRuntime) -> Result<(), Fail> {
     let alloc = rt.alloc();
-    for (fails, answer, text) in [
-        (false, Ok(()), b">abc".as_slice()),
-        (true, Err(LoadError::Failed), b">".as_slice()),
+    for (error, answer, text) in [
+        (None, Ok(()), b">abc".as_slice()),
+        (Some(FULL), Err(LoadError::Failed), b">".as_slice()),
+        (Some(NO_MEMORY), Err(LoadError::Memory), b">".as_slice()),
     ] {
         let mut into = Vec::from_slice(alloc, b">")?;
         let mut drip = Drip {
             bytes: b"abc",
-            fails,
+            error,
         };
         assert!(rt; read_whole(&mut drip, &mut into) == answer);
         assert!(rt; into.as_slice() == text);
