@@ -59,7 +59,7 @@ impl From<AllocError> for StoreError {
 
 /// A device that keeps files by name.
 pub trait Shelf {
-    ghost use Rattle.outside_dm.specs.Shelves.{ShelfState, AppendsFile, LoadCounted, NamesFailure, OnlyWhereAbsent, OnlyWhereTooLong, WhereAbsent, WhereTooLong, LoadKeeps, StoreEnds, StoreKeeps, after_load, after_store};
+    ghost use Rattle.outside_dm.specs.Shelves.{ShelfState, AppendsFile, LoadCounted, NamesFailure, OnlyWhereAbsent, OnlyWhereTooLong, WhereAbsent, WhereTooLong, LoadKeeps, StoreEnds, StoreKeeps};
 
     ghost state: { Self → ShelfState };
 
@@ -74,13 +74,11 @@ pub trait Shelf {
         ensures only_where_too_long { OnlyWhereTooLong (state self.old) name.now result }
         ensures where_absent { WhereAbsent (state self.old) (state self.new) name.now result }
         ensures where_too_long { WhereTooLong (state self.old) (state self.new) name.now result }
-        ensures kept { LoadKeeps (state self.old) (state self.new) }
-        ensures state { state self.new ≡ after_load (state self.old) name.now result };
+        ensures kept { LoadKeeps (state self.old) (state self.new) };
 
     /// Replaces the bytes of the file, or makes it. A refusal leaves open what this name holds,
     /// and every other name as it was.
     fn store(&mut self, name: &str, bytes: &[u8]) -> Result<(), StoreError>
         ensures ends { StoreEnds (state self.old) (state self.new) name.now bytes.now result }
-        ensures kept { StoreKeeps (state self.old) (state self.new) }
-        ensures state { state self.new ≡ after_store (state self.old) (state self.new).files result };
+        ensures kept { StoreKeeps (state self.old) (state self.new) };
 }

@@ -27,7 +27,7 @@ impl From<AllocError> for PutError {
 
 /// A device that takes bytes in order.
 pub trait Sink {
-    ghost use Rattle.outside_dm.specs.Sinks.{SinkState, Puts, SinkKeeps, CountsShortage, CountsPut};
+    ghost use Rattle.outside_dm.specs.Sinks.{SinkState, Puts, SinkKeeps, CountsShortage};
 
     ghost state: { Self → SinkState };
 
@@ -35,6 +35,5 @@ pub trait Sink {
     fn put(&mut self, piece: &[u8]) -> Result<(), PutError>
         ensures puts { Puts piece.now (state self.old) (state self.new) result }
         ensures shortage { CountsShortage (state self.old) (state self.new) result }
-        ensures kept { SinkKeeps (state self.old) (state self.new) }
-        ensures counts { CountsPut (state self.old) (state self.new) result };
+        ensures kept { SinkKeeps (state self.old) (state self.new) };
 }
