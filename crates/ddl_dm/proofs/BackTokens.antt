@@ -63,8 +63,8 @@ text_along : (total : ℕ) {x y : List ℕ} {found : List Placed} → x ≡ y �
 text_along total {x} {y} {found} e h = let P : List ℕ → Type 0 = λ ts. Consists total ts found [] in subst P e h
 
 identifier : (name : Name) → ¬ IsBadName name → IsIdentifier name
-identifier [] good = absurd (good tt)
-identifier (c ∷ cs) good = (c, cs, refl, good)
+identifier [] good = absurd (good (inr tt))
+identifier (c ∷ cs) good = (c, cs, refl, λ e. good (inr e))
 
 -- ---- words
 

@@ -1,5 +1,6 @@
 pub mod FirstPlaces
 pub mod FirstTable
+pub mod GoodNames
 pub mod KindLoops
 pub mod Lawful
 pub mod Lookups

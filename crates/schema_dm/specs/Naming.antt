@@ -1,8 +1,9 @@
 -- Names of tables and columns, and the places at which names stand.
-use Rattle.std.specs.Prelude.{◌≡◌, ℕ, List, [], ◌∷◌, Bool, Option, map, nat_eq, slice_get, slice_index_or}
+use Rattle.std.specs.Prelude.{◌≡◌, ◌⊎◌, ℕ, List, [], ◌∷◌, Bool, Option, map, nat_eq, slice_get, slice_index_or}
 use Rattle.std.specs.Option.{option_map}
 use Rattle.std.specs.List.{Any, position_or_len}
 use Rattle.std.specs.Cmp.Lexicographic.{pointwise}
+use Rattle.value_dm.specs.Texts.{IsText}
 use Rattle.value_dm.specs.declared.kind.Kind.{Kind}
 use Rattle.schema_dm.specs.declared.draft.Column.{Column}
 
@@ -13,10 +14,14 @@ Name = List ℕ
 abbrev pub same_name : Name → Name → Bool
 same_name x y = pointwise nat_eq x y
 
--- a name is bad that is empty, or begins with the byte order mark U+FEFF
+-- a name that is empty, or begins with the byte order mark U+FEFF
+abbrev pub BeginsBadly : Name → Type 0
+BeginsBadly [] = Unit {0}
+BeginsBadly (c ∷ cs) = c ≡ 65279
+
+-- such a name is bad, and so is a list of numbers that aren't all Unicode scalar values, which no text has
 abbrev pub IsBadName : Name → Type 0
-IsBadName [] = Unit {0}
-IsBadName (c ∷ cs) = c ≡ 65279
+IsBadName name = (¬ IsText name) ⊎ BeginsBadly name
 
 abbrev pub column_names : List Column → List Name
 column_names columns = map (λ column. column.name) columns

@@ -1,6 +1,6 @@
-ghost use Rattle.std.specs.Prelude.{◌≡◌, ◌⊎◌, ◌↔◌, ◌<◌, ◌^◌, ◌++◌, IfOk, IsTrue, Any, length, map, codes, option_copied};
+ghost use Rattle.std.specs.Prelude.{◌≡◌, ◌⊎◌, ◌↔◌, ◌<◌, ◌^◌, ◌++◌, IfOk, IsTrue, Any, chars, length, map, codes, option_copied};
 ghost use Rattle.members_dm.specs.Elements.{Repeats};
-ghost use Rattle.schema_dm.specs.Naming.{IsBadName, column_names, Declares};
+ghost use Rattle.schema_dm.specs.Naming.{BeginsBadly, IsBadName, column_names, Declares};
 ghost use Rattle.schema_dm.specs.Drafts.{AnyOwnList, ClashesWith, DeclaresTable};
 
 use crate::index::Index;
@@ -11,11 +11,17 @@ use crate::{Column, ForeignDraft, TableDraft};
 use std::alloc::{AllocError, Global};
 use value_dm::{Names, Text, TryCopy};
 
-/// Whether the name is empty or begins with the byte order mark.
+/// Whether the name is empty or begins with the byte order mark. A text has scalar values alone.
 pub fn is_bad_name(name: &Text) -> bool
     ensures { IsTrue result ↔ IsBadName name.now }
 {
-    match name.as_str().chars().next() {
+    begins_badly(name.as_str())
+}
+
+fn begins_badly(name: &str) -> bool
+    ensures { IsTrue result ↔ BeginsBadly (chars name.now) }
+{
+    match name.chars().next() {
         None => true,
         Some(first) => first == '\u{feff}',
     }

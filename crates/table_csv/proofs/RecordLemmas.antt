@@ -2,20 +2,21 @@
 use Rattle.std.proofs.Common.{◌≡◌, ◌==◌, ◌||◌, ◌+◌, ◌<◌, ◌≤◌, ◌++◌, ◌∷◌, ◌∙◌, [], ℕ, zero, suc, List, Bool, Some, None, true, false, length, refl, sym, ap, arith, inl, inr, if◌then◌else◌, append-nil, append_assoc}
 use Rattle.std.proofs.lemmas.Bool.{cases_Bool}
 use Rattle.csv.specs.Machine.{Read, ends_at_end, is_end, next_record, step, fields_after, field_after}
-use Rattle.std.proofs.Common.{Bor, Option, Result, Ok}
+use Rattle.std.proofs.Common.{Bor, Ok, Err}
 use Rattle.std.specs.List.{AllZip}
-use Rattle.csv.specs.Reading.{AreRecords, FailStep, FlexibleStep, HeaderNext, HeaderRowStep, Reached, Ready, RowStep, default_config, is_flexible, reader_config, reader_state, reader_trim, records, records_from, source_of, strip_bom}
-use Rattle.csv.specs.Records.{fields_of}
-use Rattle.csv.specs.declared.error.Error.{Error}
+use Rattle.csv.specs.Reading.{AreRecords, ExplainsRead, ReadRecord, Reached, Ready, default_config, is_flexible, reader_config, reader_state, reader_trim, records, records_from, source_of, stops_reader, strip_bom, took_first}
+use Rattle.csv.specs.declared.error.ErrorKind.{ErrorKind}
+use Rattle.csv.specs.declared.error.ErrorKind.TheVariants as kind
 use Rattle.csv.specs.declared.reader.Reader.{Reader}
 use Rattle.csv.specs.declared.reader.Trim.TheVariants as trim
-use Rattle.csv.specs.declared.record.ByteRecord.{ByteRecord}
 use Rattle.csv.proofs.ReadFacts.{rows-end, rows-more}
 use Rattle.value_dm.specs.declared.mode.NullMode.{NullMode}
 use Rattle.schema_dm.specs.declared.draft.Column.{Column}
 use Rattle.table_csv.specs.Cells.{Row}
 use Rattle.table_csv.specs.Headers.{IsHeaderFault}
-use Rattle.table_csv.specs.Reading.{OrMemory}
+use Rattle.table_csv.specs.Reading.{AtRecords, IsNext, IsStop, OrMemory, known}
+use Rattle.table_csv.specs.declared.reading.Stop.{Stop}
+use Rattle.table_csv.specs.declared.reading.Stop.TheVariants as stops
 use Rattle.table_csv.specs.TableFiles.{HasRecordFault, HasRows, IsFirstFault, IsHeader, IsRecordFault, Record, SpellsRow, records_of}
 use Rattle.table_csv.specs.declared.fault.TableError.{TableError}
 use Rattle.table_csv.specs.declared.fault.TableError.TheVariants as fault
@@ -120,19 +121,6 @@ all-records xs file h =
 
 -- ---- a reader over the bytes
 
-abbrev known : Bor (List ℕ) → Option (List ℕ)
-known s = Some s.now
-
--- the reader keeps its settings, and has given these records
-pub record AtRecords (bytes : List ℕ) (file : List Record) (r : Reader (Bor (List ℕ))) : Type 0 where
-  pub trims : reader_trim r ≡ trim.None
-  pub ready : Ready r
-  pub config : reader_config r ≡ default_config
-  pub rest : List ℕ
-  pub source : source_of known r ≡ Some rest
-  pub reached : Reached default_config st.StartRecord (strip_bom bytes) file (reader_state r) rest
-  pub flexible : is_flexible r ≡ true
-
 pub at_start : (bytes : List ℕ) (r : Reader (Bor (List ℕ))) → reader_trim r ≡ trim.None → Ready r → reader_config r ≡ default_config → source_of known r ≡ Some (strip_bom bytes)
     → reader_state r ≡ st.StartRecord → is_flexible r ≡ true → AtRecords bytes [] r
 unfolding Reached
@@ -146,32 +134,31 @@ at_start bytes r trims ready config source state flexible = record {
   flexible = flexible;
 }
 
--- what a call for the next record does
-abbrev pub Steps : Reader (Bor (List ℕ)) → Reader (Bor (List ℕ)) → ℕ → ℕ → Option (Result ByteRecord Error) → Type 0
-Steps a b left after r = 0 < left → reader_trim a ≡ trim.None
-    → (Ready a → RowStep known a b after r) × (HeaderNext a → HeaderRowStep known a b after r) × FailStep a b after r × FlexibleStep a b r
+pub read_next : (bytes : List ℕ) (file : List Record) (a b : Reader (Bor (List ℕ))) (found : Bool) (fields : Record) → AtRecords bytes file a
+    → (reader_trim a ≡ trim.None → Ready a → ReadRecord known a b found fields) → (reader_trim a ≡ trim.None → took_first b ≡ true) → is_flexible b ≡ is_flexible a → IsNext bytes file fields b (Ok found)
+read_next bytes file a b true fields h reads first flexible =
+    let read = reads h.trims h.ready in
+    let more = rows-more known a b fields default_config st.StartRecord (strip_bom bytes) h.rest file h.config h.source h.reached read in
+    record {
+      trims = read.3 ∙ h.trims;
+      ready = inl (first h.trims);
+      config = read.2 ∙ h.config;
+      rest = more.0;
+      source = more.1;
+      reached = more.2;
+      flexible = flexible ∙ h.flexible;
+    }
+read_next bytes file a b false fields h reads first flexible =
+    all-records (strip_bom bytes) file (reader_state a, h.rest, h.reached, rows-end known a b fields default_config h.rest h.config h.source (reads h.trims h.ready))
 
-pub at_next : (bytes : List ℕ) (file : List Record) (a b : Reader (Bor (List ℕ))) (left after : ℕ) (row : ByteRecord) → AtRecords bytes file a → 0 < left → Steps a b left after (Some (Ok row))
-    → AtRecords bytes (file ++ fields_of row ∷ []) b × (0 < after)
-at_next bytes file a b left after row h some steps =
-    let step = steps some h.trims in
-    let read = step.0 h.ready in
-    let more = rows-more known a b (fields_of row) default_config st.StartRecord (strip_bom bytes) h.rest file h.config h.source h.reached read.0 in (
-      record {
-        trims = read.0.3 ∙ h.trims;
-        ready = inl read.1;
-        config = read.0.2 ∙ h.config;
-        rest = more.0;
-        source = more.1;
-        reached = more.2;
-        flexible = step.3 ∙ h.flexible;
-      },
-      read.2,
-    )
-
-pub at_end : (bytes : List ℕ) (file : List Record) (a b : Reader (Bor (List ℕ))) (left after : ℕ) → AtRecords bytes file a → 0 < left → Steps a b left after None → records_of bytes ≡ file
-at_end bytes file a b left after h some steps =
-    all-records (strip_bom bytes) file (reader_state a, h.rest, h.reached, rows-end known a b [] default_config h.rest h.config h.source ((steps some h.trims).0 h.ready))
+-- a flexible reader fails for the bytes underneath or for memory
+pub read_stops : (a b : Reader (Bor (List ℕ))) (k : ErrorKind) → ExplainsRead known a b false k → is_flexible a ≡ true → stops_reader k ≡ true
+read_stops a b (kind.Io e) why flexible = refl
+read_stops a b kind.OutOfMemory why flexible = refl
+read_stops a b (kind.UnequalLengths pos expected len) why flexible = (let rigid = why.0 in cc)
+read_stops a b (kind.Utf8 pos err) why flexible = (let text = why.0 in cc)
+read_stops a b (kind.Serialize text) why flexible = absurd why
+read_stops a b (kind.Deserialize pos err) why flexible = absurd why
 
 begins : (bytes : List ℕ) (file : List Record) (r : Reader (Bor (List ℕ))) → AtRecords bytes file r → (more : List Record) × (records_of bytes ≡ file ++ more)
 begins bytes file r h = first-records (strip_bom bytes) h.rest (reader_state r) file h.reached
@@ -223,3 +210,9 @@ record_refused columns mode bytes header fields body rows r (fault.NullRefused n
 pub rows_whole : (columns : List Column) (mode : NullMode) (file : List Record) (header : Record) (body : List Record) (rows : List Row) → file ≡ header ∷ body → IsHeader columns header
     → AllZip (SpellsRow columns mode header) body rows → length rows ≤ 4194304 → HasRows columns mode file rows
 rows_whole columns mode file header body rows parts names each few = record { header = header; body = body; parts = parts; names = names; each = each; few = few }
+
+-- a call for a record that fails stops the reading
+pub stop_of : (columns : List Column) (mode : NullMode) (bytes : List ℕ) (file : List Record) (fields : Record) (r : Reader (Bor (List ℕ))) (stop : Stop) → IsNext bytes file fields r (Err stop)
+    → IsStop columns mode bytes stop
+stop_of columns mode bytes file fields r (stops.Reader error) h = h
+stop_of columns mode bytes file fields r (stops.Refused error) h = absurd h

@@ -90,7 +90,7 @@ unmarked-name (a ∷ b ∷ c ∷ rest) name e good = elim (cases_Bool (is_bom a 
       let two = and_parts (a == 239) (b == 187) last.0 in
       let read = mark_read rest in
       let is : name ≡ 65279 ∷ read.0 = sym (rw (eqb-true a 239 two.0, eqb-true b 187 two.1, eqb-true c 191 last.1) at e) ∙ read.1 in
-      absurd (good (let P : List ℕ → Type 0 = IsBadName in subst P (sym is) refl))
+      absurd (good (let P : List ℕ → Type 0 = IsBadName in subst P (sym is) (inr refl)))
   | inr none ↦ none
 ]
 

@@ -1,6 +1,10 @@
 -- What the steps of reading a table file answer.
-use Rattle.std.specs.Prelude.{◌≡◌, ◌≢◌, ⊤, true, ℕ, List, [], ◌∷◌, ◌++◌, length}
-use Rattle.csv.specs.Reading.{error_kind, stops_reader}
+use Rattle.std.specs.Prelude.{◌≡◌, ◌≢◌, ⊤, Bool, true, false, ℕ, List, [], ◌∷◌, ◌++◌, Option, Some, Result, Ok, Err, length}
+use Rattle.std.specs.Borrow.{Bor}
+use Rattle.csv.specs.Reading.{Reached, Ready, default_config, error_kind, is_flexible, reader_config, reader_state, reader_trim, source_of, stops_reader, strip_bom}
+use Rattle.csv.specs.declared.parser.State.TheVariants as st
+use Rattle.csv.specs.declared.reader.Reader.{Reader}
+use Rattle.csv.specs.declared.reader.Trim.TheVariants as trim
 use Rattle.value_dm.specs.declared.mode.NullMode.{NullMode}
 use Rattle.schema_dm.specs.declared.draft.Column.{Column}
 use Rattle.table_csv.specs.Cells.{Row}
@@ -28,3 +32,25 @@ AddsRow columns mode header fields rows more = (row : Row) × SpellsRow columns 
 abbrev pub IsStop : List Column → NullMode → List ℕ → Stop → Type 0
 IsStop columns mode bytes (stop.Reader error) = stops_reader (error_kind error) ≡ true
 IsStop columns mode bytes (stop.Refused error) = IsFirstFault columns mode (records_of bytes) error
+
+-- ---- a reader over the bytes
+
+abbrev pub known : Bor (List ℕ) → Option (List ℕ)
+known s = Some s.now
+
+-- the reader keeps its settings, and has given these records
+pub record AtRecords (bytes : List ℕ) (file : List Record) (r : Reader (Bor (List ℕ))) : Type 0 where
+  pub trims : reader_trim r ≡ trim.None
+  pub ready : Ready r
+  pub config : reader_config r ≡ default_config
+  pub rest : List ℕ
+  pub source : source_of known r ≡ Some rest
+  pub reached : Reached default_config st.StartRecord (strip_bom bytes) file (reader_state r) rest
+  pub flexible : is_flexible r ≡ true
+
+-- what is answered of a reader that has given these records: one more, or that they are all
+abbrev pub IsNext : List ℕ → List Record → Record → Reader (Bor (List ℕ)) → Result Bool Stop → Type 0
+IsNext bytes file fields reader (Ok true) = AtRecords bytes (file ++ fields ∷ []) reader
+IsNext bytes file fields reader (Ok false) = records_of bytes ≡ file
+IsNext bytes file fields reader (Err (stop.Reader error)) = stops_reader (error_kind error) ≡ true
+IsNext bytes file fields reader (Err (stop.Refused error)) = ⊥

@@ -4,14 +4,14 @@ ghost use Rattle.members_dm.specs.Membership.{NoRepeats};
 ghost use Rattle.schema_dm.specs.Naming.{column_names};
 ghost use Rattle.table_csv.specs.Cells.{AreRowsOf, Row};
 ghost use Rattle.table_csv.specs.Headers.{IsOrder, header_of};
-ghost use Rattle.table_csv.specs.Reading.{AddsRow, IsRowFault, IsStop, OrMemory};
-ghost use Rattle.table_csv.specs.TableFiles.{IsFieldFault, IsFirstFault, IsRecordFault, IsTableFile, SpellsCell, SpellsRow, name_fields, records_of};
+ghost use Rattle.table_csv.specs.Reading.{AddsRow, AtRecords, IsNext, IsRowFault, IsStop, OrMemory};
+ghost use Rattle.table_csv.specs.TableFiles.{IsFieldFault, IsFirstFault, IsRecordFault, IsTableFile, Record, SpellsCell, SpellsRow, name_fields, records_of};
 
 use crate::database::MOST_ROWS;
 use crate::fault::TableError;
 use crate::header::read_header;
 use crate::rows::Rows;
-use csv::{ByteRecord, Error, ReaderBuilder};
+use csv::{ByteRecord, Error, Reader, ReaderBuilder};
 use schema_dm::{Column, Table};
 use std::alloc::{AllocError, Global};
 use std::str;
@@ -70,32 +70,42 @@ fn read_records(
     ensures ok { IfOk result (IsTableFile columns.now mode bytes.now) }
     ensures err { IfErr result (IsStop columns.now mode bytes.now) }
 {
-    let mut records = ReaderBuilder::new()
+    let mut reader = ReaderBuilder::new()
         .has_headers(false)
         .flexible(true)
-        .from_reader(alloc, bytes)
-        .into_byte_records();
-    let header = match records.next() {
-        Some(Ok(header)) => header,
-        Some(Err(error)) => return Err(Stop::Reader(error)),
-        None => return Err(Stop::Refused(TableError::NoHeader)),
-    };
-    let order = match read_header(alloc, columns, &header) {
+        .from_reader(alloc, bytes);
+    let mut record = ByteRecord::new(alloc);
+    match next_record(&mut reader, &mut record) {
+        Ok(true) => {}
+        Ok(false) => return Err(Stop::Refused(TableError::NoHeader)),
+        Err(stop) => return Err(stop),
+    }
+    let order = match read_header(alloc, columns, &record) {
         Ok(order) => order,
         Err(error) => return Err(Stop::Refused(error)),
     };
     let mut rows = Rows::new(alloc);
-    for record in records {
-        let record = match record {
-            Ok(record) => record,
-            Err(error) => return Err(Stop::Reader(error)),
-        };
+    loop {
+        match next_record(&mut reader, &mut record) {
+            Ok(true) => {}
+            Ok(false) => return Ok(rows),
+            Err(stop) => return Err(stop),
+        }
         match add_row(alloc, columns, &order, mode, &record, &mut rows) {
             Ok(()) => {}
             Err(error) => return Err(Stop::Refused(error)),
         }
     }
-    Ok(rows)
+}
+
+// The next record into `row`, whose room serves for all, and whether there was one.
+fn next_record(reader: &mut Reader<&[u8]>, row: &mut ByteRecord) -> Result<bool, Stop>
+    ensures { (bytes : List ℕ) (file : List Record) → AtRecords bytes file reader.old → IsNext bytes file (fields_of row.new) reader.new result }
+{
+    match reader.read_byte_record(row) {
+        Ok(found) => Ok(found),
+        Err(error) => Err(Stop::Reader(error)),
+    }
 }
 
 // Appends the row of one more record.
@@ -146,7 +156,7 @@ fn read_row(
         let column = &columns[*place];
         cells[*place] = read_cell(alloc, column, mode, field, number, at as u64 + 1)?;
     }
-    Ok(cells_of(alloc, cells)?)
+    Ok(Cells::from_vec(cells))
 }
 
 // The cell that the field of the column stands for, where the column allows it.
@@ -179,19 +189,9 @@ fn read_cell(
 fn nulls(alloc: Global, count: usize) -> Result<Vec<Cell>, AllocError>
     ensures { IfOk result (λ cells. length cells.items ≡ count) }
 {
-    let mut cells = Vec::new(alloc);
+    let mut cells = Vec::with_capacity(alloc, count)?;
     for _ in 0..count {
         cells.push(None)?;
-    }
-    Ok(cells)
-}
-
-fn cells_of(alloc: Global, items: Vec<Cell>) -> Result<Cells, AllocError>
-    ensures { IfOk result (λ cells. cells ≡ items.items) }
-{
-    let mut cells = Cells::new(alloc);
-    for item in items {
-        cells.push(item)?;
     }
     Ok(cells)
 }

@@ -39,4 +39,4 @@ loop-at-preserved c =
 
 pub returns-clause-ok : goal.returns-clause-ok
 returns-clause-ok c =
-    rw c.in_ok-cells_of.ensures (row_read c.args.columns.now c.args.mode (fields_of c.args.fields.now) c.args.order.now c.loop-at.at c.loop-at.cells.items c.requires (sym c.len.ensures ∙ c.if-len-columns.false) c.loop-at-test.false c.loop-at.invariant)
+    rw c.from_vec.ensures (row_read c.args.columns.now c.args.mode (fields_of c.args.fields.now) c.args.order.now c.loop-at.at c.loop-at.cells.items c.requires (sym c.len.ensures ∙ c.if-len-columns.false) c.loop-at-test.false c.loop-at.invariant)
