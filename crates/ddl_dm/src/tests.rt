@@ -103,16 +103,16 @@ CREATE TABLE A (x INT PRIMARY KEY REFERENCES A ON DELETE NO ACTION ON UPDATE RES
 CREATE TABLE A (x INT CONSTRAINT n PRIMARY KEY CONSTRAINT \"m\" NOT NULL CONSTRAINT k NULL CONSTRAINT r REFERENCES A, y INT CONSTRAINT u UNIQUE, CONSTRAINT v UNIQUE (x, y), CONSTRAINT f FOREIGN KEY (y) REFERENCES A (x)); ALTER TABLE A ADD CONSTRAINT w UNIQUE (y, x)|A x:Integer! y:Integer p0 u1 u01 u10 f0>0:0 f1>0:0;"
 }
 
+fn is_answered(alloc: Global, line: &str) -> Result<bool, Fail> {
+    let (text, want) = line.split_once('|').ok_or("no answer")?;
+    Ok(schema_answer(alloc, text.as_bytes())?.as_str() == want)
+}
+
 #[test]
 fn schemas(rt: HostRuntime) -> Result<(), Fail> {
     let alloc = rt.alloc();
     for line in files().lines() {
-        let (text, want) = line.split_once('|').ok_or("no answer")?;
-        assert_eq!(rt;
-            schema_answer(alloc, text.as_bytes())?.as_str(),
-            want,
-            "at {text}"
-        );
+        assert!(rt; is_answered(alloc, line)?, "{line}");
     }
     assert_eq!(rt;
         schema_answer(alloc, b"\xff".as_slice())?.as_str(),
@@ -125,46 +125,95 @@ fn schemas(rt: HostRuntime) -> Result<(), Fail> {
     Ok(())
 }
 
-fn columns_of(alloc: Global, names: &[(&str, Kind)]) -> Result<Columns, AllocError> {
+// A kind by the first letter of its type; `S` is TIMESTAMP.
+fn kind_of(letter: &str) -> Kind {
+    match letter {
+        "I" => Kind::Integer,
+        "D" => Kind::Date,
+        "S" => Kind::DateTime,
+        _ => Kind::Text,
+    }
+}
+
+fn add_column(
+    alloc: Global,
+    columns: &mut Columns,
+    name: &str,
+    letter: &str,
+) -> Result<(), AllocError> {
+    columns.push(Column {
+        name: Text::from_str(alloc, name)?,
+        kind: kind_of(letter),
+        not_null: false,
+    })?;
+    Ok(())
+}
+
+fn shape_columns(alloc: Global, text: &str) -> Result<Columns, Fail> {
     let mut columns = Columns::new(alloc);
-    for (name, kind) in names {
-        columns.push(Column {
-            name: Text::from_str(alloc, name)?,
-            kind: *kind,
-            not_null: false,
-        })?;
+    for part in text.split(' ') {
+        let (name, letter) = part.split_once('=').ok_or("no kind")?;
+        add_column(alloc, &mut columns, name, letter)?;
     }
     Ok(columns)
 }
 
-fn two_tables(alloc: Global) -> Result<ShapeTables, AllocError> {
+fn add_table(
+    alloc: Global,
+    tables: &mut ShapeTables,
+    name: &str,
+    columns: Columns,
+) -> Result<(), AllocError> {
+    tables.push(ShapeTable {
+        name: Text::from_str(alloc, name)?,
+        columns,
+    })?;
+    Ok(())
+}
+
+fn shape_tables(alloc: Global, text: &str) -> Result<ShapeTables, Fail> {
     let mut tables = ShapeTables::new(alloc);
-    tables.push(ShapeTable {
-        name: Text::from_str(alloc, "A\"B")?,
-        columns: columns_of(
-            alloc,
-            [("a", Kind::Integer), ("b", Kind::DateTime)].as_slice(),
-        )?,
-    })?;
-    tables.push(ShapeTable {
-        name: Text::from_str(alloc, "é")?,
-        columns: columns_of(alloc, [("z", Kind::Text)].as_slice())?,
-    })?;
+    for part in text.split(';') {
+        let (name, rest) = part.split_once(':').ok_or("no columns")?;
+        add_table(alloc, &mut tables, name, shape_columns(alloc, rest)?)?;
+    }
     Ok(tables)
+}
+
+fn canonical(alloc: Global, shape: &str) -> Result<String, Fail> {
+    let shape = Shape::new(shape_tables(alloc, shape)?).ok_or("no shape")?;
+    Ok(shape_text(alloc, &shape)?)
+}
+
+// A shape, after `|` its canonical statements with `/` for LF, and after `|` the tables that they declare.
+fn shape_cases() -> &'static str {
+    "A\"B:a=I b=S;é:z=T|CREATE TABLE \"A\"\"B\" (\"a\" INTEGER, \"b\" TIMESTAMP);/CREATE TABLE \"é\" (\"z\" TEXT);/|A\"B a:Integer b:DateTime;é z:Text;
+Addresses:ID=I city=T state=T;People:ID=I addr=I fname=T|CREATE TABLE \"Addresses\" (\"ID\" INTEGER, \"city\" TEXT, \"state\" TEXT);/CREATE TABLE \"People\" (\"ID\" INTEGER, \"addr\" INTEGER, \"fname\" TEXT);/|Addresses ID:Integer city:Text state:Text;People ID:Integer addr:Integer fname:Text;
+E:a=T b=D|CREATE TABLE \"E\" (\"a\" TEXT, \"b\" DATE);/|E a:Text b:Date;"
+}
+
+fn unmarked(alloc: Global, marked: &str) -> Result<String, Fail> {
+    let mut text = String::new(alloc);
+    for c in marked.chars() {
+        text.push(if c == '/' { '\n' } else { c })?;
+    }
+    Ok(text)
+}
+
+fn is_canonical(alloc: Global, case: &str) -> Result<bool, Fail> {
+    let (shape, rest) = case.split_once('|').ok_or("no text")?;
+    let (wanted, tables) = rest.split_once('|').ok_or("no tables")?;
+    let text = canonical(alloc, shape)?;
+    let answer = schema_answer(alloc, text.as_str().as_bytes())?;
+    let wanted = unmarked(alloc, wanted)?;
+    Ok(text.as_str() == wanted.as_str() && answer.as_str() == tables)
 }
 
 #[test]
 fn shapes(rt: HostRuntime) -> Result<(), Fail> {
     let alloc = rt.alloc();
-    let shape = Shape::new(two_tables(alloc)?).ok_or("no shape")?;
-    let text = shape_text(alloc, &shape)?;
-    assert_eq!(rt;
-        text.as_str(),
-        "CREATE TABLE \"A\"\"B\" (\"a\" INTEGER, \"b\" TIMESTAMP);\nCREATE TABLE \"é\" (\"z\" TEXT);\n"
-    );
-    assert_eq!(rt;
-        schema_answer(alloc, text.as_str().as_bytes())?.as_str(),
-        "A\"B a:Integer b:DateTime;é z:Text;"
-    );
+    for case in shape_cases().lines() {
+        assert!(rt; is_canonical(alloc, case)?, "{case}");
+    }
     Ok(())
 }
