@@ -55,7 +55,7 @@ leads_trans h k = record {
 
 module _ (s t u : ShelfState) (o p : SinkState) (keeps : LoadKeeps s t) where
   untouched_after : Untouched t u o p → Untouched s u o p
-  untouched_after k = record { files = k.files ∙ keeps.files; held = k.held }
+  untouched_after k = record { files = k.files ∙ keeps.files; store_faults = k.store_faults ∙ keeps.store_faults; output = k.output }
 
   wrote_after : (work : Work) → Wrote work t u o p → Wrote work s u o p
   wrote_after work w = record { files = subst (λ f. StoresAll work.files f u.files) keeps.files w.files; text = w.text }
@@ -150,7 +150,7 @@ spares_refl to_both s o = tt
 -- a refusal writes nothing
 pub ends_refused : (target : Target) (reason : Reason) (s : ShelfState) (o : SinkState) → Ends target (refuse reason) s s o o (Refused reason)
 ends_refused target reason s o = record {
-  means = (record { files = refl; held = refl }, λ files told. refl);
+  means = (record { files = refl; store_faults = refl; output = refl }, λ files told. refl);
   spares = spares_refl target s o;
   counts = counts_refl s o;
 }
@@ -158,7 +158,7 @@ ends_refused target reason s o = record {
 -- memory ran out before anything was written
 pub ends_memory : (target : Target) (script : Script) (s : ShelfState) (o : SinkState) → Ends target script s s o o Memory
 ends_memory target script s o = record {
-  means = inl (record { files = refl; held = refl });
+  means = inl (record { files = refl; store_faults = refl; output = refl });
   spares = spares_refl target s o;
   counts = counts_refl s o;
 }
@@ -194,7 +194,7 @@ pub ends_absent : (target : Target) (file : File) (name : List ℕ) (next : List
     LoadKeeps s t → Rose s.absences t.absences → IfSome s.files (λ files. get files name ≡ None) → Ends target (load file name next) s t o o (Absent file)
 ends_absent target file name next {s = s} o keeps rose only = record {
   means = (
-    record { files = keeps.files; held = refl },
+    record { files = keeps.files; store_faults = keeps.store_faults; output = refl },
     rose,
     (λ files told.
         let none : get files name ≡ None = subst (λ (f : Option Files). IfSome f (λ files. get files name ≡ None)) told only in
@@ -214,7 +214,7 @@ pub ends_too_long : (target : Target) (file : File) (name : List ℕ) (next : Li
     LoadKeeps s t → Rose s.overlongs t.overlongs → IfSome s.files (λ files. IsOverlong (get files name)) → Ends target (load file name next) s t o o (TooLong file)
 ends_too_long target file name next {s = s} o keeps rose only = record {
   means = (
-    record { files = keeps.files; held = refl },
+    record { files = keeps.files; store_faults = keeps.store_faults; output = refl },
     rose,
     (λ files told.
         let long : IsOverlong (get files name) = subst (λ (f : Option Files). IfSome f (λ files. IsOverlong (get files name))) told only in

@@ -1,10 +1,11 @@
 -- What follows of how a run ended for the words as a whole.
 use Rattle.std.proofs.Common.{◌≡◌, ◌∙◌, refl, sym, ap, subst, inl, inr, ◌⊎◌, ℕ, ◌+◌, ◌≤◌, List, [], ◌∷◌, length, Option, Some, None, Result, Ok, Err, true, false, Bool, cond}
-use Rattle.std.specs.Prelude.{IsTrue, IfSome, MatchBool}
+use Rattle.std.specs.Prelude.{IsTrue, IfSome, MatchBool, map}
 use Rattle.std.specs.FinMap.{get}
 use Rattle.std.specs.Io.KnownBytes.{Appends}
 use Rattle.std.proofs.lemmas.Bool.{le-ltb}
-use Rattle.members_dm.specs.Places.{IsListing}
+use Rattle.members_dm.specs.Membership.{IsIn}
+use Rattle.members_dm.specs.Places.{IsListing, Place}
 use Rattle.members_dm.proofs.PlacesLemmas.{listing_unique}
 use Rattle.value_dm.specs.declared.mode.NullMode.{NullMode}
 use Rattle.names_dm.specs.Namespaces.{is_base}
@@ -13,14 +14,14 @@ use Rattle.outside_dm.specs.Shelves.{Files, ShelfState, longest}
 use Rattle.outside_dm.specs.Sinks.{SinkState}
 use Rattle.table_csv.specs.Cells.{Row}
 use Rattle.table_csv.specs.Databases.{Data}
-use Rattle.keys_dm.specs.Violations.{ViolatesAt}
+use Rattle.keys_dm.specs.Violations.{KeepsKeys, ViolatesAt}
 use Rattle.keys_dm.specs.declared.violation.Violation.{Violation}
 use Rattle.graphs_dm.specs.DirectGraph.{IsDirectText}
 use Rattle.cmd_dm.specs.Check.{check_script, check_text}
 use Rattle.cmd_dm.specs.Direct.{direct_script}
 use Rattle.cmd_dm.specs.Ending.{Ends, NoFault, Target, to_output}
 use Rattle.cmd_dm.specs.Folder.{schema_file, table_file}
-use Rattle.cmd_dm.specs.Headline.{HoldsTables, HoldsDatabase, EndsSo, WritesText, MapsDirectly, Checks}
+use Rattle.cmd_dm.specs.Headline.{HoldsTables, HoldsDatabase, EndsSo, WritesText, MapsDirectly, Checks, Promises}
 use Rattle.cmd_dm.specs.Plans.{IsOutcome, NamesFile, folder_file, plan_of}
 use Rattle.cmd_dm.specs.Questions.{violations_of, direct_of}
 use Rattle.cmd_dm.specs.Reasons.{bad_base, key_reason}
@@ -199,29 +200,49 @@ writes_text IsText script {s = s} {t = t} {o = o} {p = p} status files ends told
     done_one : (v w : Work) → ◌≡◌ {A = Outcome} (done v) (done w) → v ≡ w
     done_one v w e = cc
 
--- from well-formed files `direct` comes to the step that looks at the keys
-direct_comes : (base folder : List ℕ) (nulls : NullMode) (files : Files) (D : Data) (found : List Violation) → IsTrue (is_base base) → HoldsDatabase files folder nulls D → IsListing (ViolatesAt D) found →
-    (outcome : Outcome) → Comes files (direct_script base folder nulls) outcome → Comes files (on_violations found (λ _. graph_script base D)) outcome
-unfolding base_step keys_step
-direct_comes base folder nulls files D found good held listed outcome h =
-    let loads : Comes files (database_step folder nulls (mapped base)) outcome =
-    subst (λ (b : Bool). Comes files (cond b (database_step folder nulls (mapped base)) (refuse bad_base)) outcome) good h in
-    let asked = database_comes files folder nulls D (mapped base) outcome held loads in
-    subst (λ (v : List Violation). Comes files (on_violations v (λ _. graph_script base D)) outcome) (listing_unique (ViolatesAt D) asked.0 found asked.1.0 listed) asked.1.1
+-- where no key is violated no violation is listed
+none_listed : (D : Data) → KeepsKeys D → (found : List Violation) → IsListing (ViolatesAt D) found → found ≡ []
+none_listed D kept found listed = listed.items ∙ none_placed listed.placed (λ p x. (listed.exact p x).0)
+  where
+    none_placed : (placed : List (Place × Violation)) → ((p : Place) (x : Violation) → IsIn {X = Place × Violation} (p, x) placed → ViolatesAt D p x) → map (λ (a : Place × Violation). a.1) placed ≡ []
+    none_placed [] violates = refl
+    none_placed (entry ∷ placed) violates =
+        let first = violates entry.0 entry.1 (inl refl) in
+        absurd (kept first.t first.i entry.1.kind first.in_table first.in_row first.violates.broken)
 
-pub maps_directly : (base folder : List ℕ) (nulls : NullMode) (files : Files) (D : Data) (found : List Violation) {s t : ShelfState} {o p : SinkState} (status : Status) →
-    Ends (plan_of (Direct base folder nulls)).target (plan_of (Direct base folder nulls)).script s t o p status → s.files ≡ Some files →
-    IsTrue (is_base base) → HoldsDatabase files folder nulls D → IsListing (ViolatesAt D) found → MapsDirectly base D found s t o p status
-maps_directly base folder nulls files D [] status ends told good held listed =
-    writes_text (IsDirectText base D) (direct_script base folder nulls) status files ends told (λ outcome h. direct_comes base folder nulls files D [] good held listed outcome h)
-maps_directly base folder nulls files D (violation ∷ others) status ends told good held listed =
-    ends_so files (refused (key_reason violation)) ends told (λ outcome h. direct_comes base folder nulls files D (violation ∷ others) good held listed outcome h)
+module _ (base folder : List ℕ) (nulls : NullMode) (files : Files) (D : Data) (good : IsTrue (is_base base)) (held : HoldsDatabase files folder nulls D) where
+  -- from well-formed files `direct` comes to what it does behind the list of violations
+  behind_keys : (outcome : Outcome) → Comes files (direct_script base folder nulls) outcome
+      → (found : List Violation) × (IsListing (ViolatesAt D) found × Comes files (on_violations found (λ _. graph_script base D)) outcome)
+  unfolding base_step keys_step
+  behind_keys outcome h =
+      let loads : Comes files (database_step folder nulls (mapped base)) outcome =
+      subst (λ (b : Bool). Comes files (cond b (database_step folder nulls (mapped base)) (refuse bad_base)) outcome) good h in
+      database_comes files folder nulls D (mapped base) outcome held loads
 
-pub checks : (folder : List ℕ) (nulls : NullMode) (files : Files) (D : Data) (found : List Violation) {s t : ShelfState} {o p : SinkState} (status : Status) →
-    Ends (plan_of (Check folder nulls)).target (plan_of (Check folder nulls)).script s t o p status → s.files ≡ Some files →
-    HoldsDatabase files folder nulls D → IsListing (ViolatesAt D) found → Checks D found s t o p status
-checks folder nulls files D found status ends told held listed =
-    writes_text (λ text. text ≡ check_text D.tables found) (check_script folder nulls) status files ends told (λ outcome h.
+  -- and so behind a list of violations that is known
+  behind_found : (found : List Violation) (outcome : Outcome) (asked : (found : List Violation) × (IsListing (ViolatesAt D) found × Comes files (on_violations found (λ _. graph_script base D)) outcome)) →
+      asked.0 ≡ found → Comes files (on_violations found (λ _. graph_script base D)) outcome
+  behind_found found outcome asked is = subst (λ (v : List Violation). Comes files (on_violations v (λ _. graph_script base D)) outcome) is asked.1.1
+
+  maps_directly : {s t : ShelfState} {o p : SinkState} (status : Status) → Ends to_output (direct_script base folder nulls) s t o p status → s.files ≡ Some files → MapsDirectly base D s t o p status
+  maps_directly status ends told = record {
+    kept = λ kept. writes_text (IsDirectText base D) (direct_script base folder nulls) status files ends told (λ outcome h.
+        let asked = behind_keys outcome h in
+        behind_found [] outcome asked (none_listed D kept asked.0 asked.1.0));
+    violated = λ first others listed. ends_so files (refused (key_reason first)) ends told (λ outcome h.
+        let asked = behind_keys outcome h in
+        behind_found (first ∷ others) outcome asked (listing_unique (ViolatesAt D) asked.0 (first ∷ others) asked.1.0 listed));
+  }
+
+checks : (folder : List ℕ) (nulls : NullMode) (files : Files) (D : Data) {s t : ShelfState} {o p : SinkState} (status : Status) →
+    Ends to_output (check_script folder nulls) s t o p status → s.files ≡ Some files → HoldsDatabase files folder nulls D → Checks D s t o p status
+checks folder nulls files D status ends told held =
+    writes_text (λ text. (found : List Violation) × IsListing (ViolatesAt D) found × (text ≡ check_text D.tables found)) (check_script folder nulls) status files ends told (λ outcome h.
     let asked = database_comes files folder nulls D checked outcome held h in
-    let same = listing_unique (ViolatesAt D) asked.0 found asked.1.0 listed in
-    (check_text D.tables asked.0, (ap (check_text D.tables) same, asked.1.1)))
+    (check_text D.tables asked.0, ((asked.0, asked.1.0, refl), asked.1.1)))
+
+-- each command keeps its promise
+pub promised : (command : Command) {s t : ShelfState} {o p : SinkState} (status : Status) → Ends (plan_of command).target (plan_of command).script s t o p status → Promises command s t o p status
+promised (Direct base folder nulls) status ends = λ files D told good held. maps_directly base folder nulls files D good held status ends told
+promised (Check folder nulls) status ends = λ files D told held. checks folder nulls files D status ends told held

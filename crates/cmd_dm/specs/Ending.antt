@@ -37,10 +37,11 @@ WroteSome work old new before after =
     (StoresFirst work.files old.files new.files × (after.held ≡ before.held))
     ⊎ (StoresAll work.files old.files new.files × AppendsPrefix before.held after.held work.text)
 
--- nothing was written
+-- nothing was written, also where the devices tell nothing: no file and no count of stores changed, and the output is as it was
 pub record Untouched (old new : ShelfState) (before after : SinkState) : Type 0 where
   pub files : new.files ≡ old.files
-  pub held : after.held ≡ before.held
+  pub store_faults : new.store_faults ≡ old.store_faults
+  pub output : after ≡ before
 
 -- a fault was counted at a device that the command writes to
 abbrev pub WriteFaultRose : Target → ShelfState → ShelfState → SinkState → SinkState → Type 0

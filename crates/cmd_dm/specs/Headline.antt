@@ -1,8 +1,10 @@
 -- What the program promises of its commands, for files that are well-formed.
-use Rattle.std.specs.Prelude.{◌≡◌, ◌⊎◌, ℕ, ◌≤◌, List, [], ◌∷◌, length, Some}
+use Rattle.std.specs.Prelude.{◌≡◌, ◌⊎◌, ℕ, ◌≤◌, List, [], ◌∷◌, length, Some, IsTrue}
 use Rattle.std.specs.Io.KnownBytes.{Appends}
 use Rattle.std.specs.FinMap.{get}
+use Rattle.members_dm.specs.Places.{IsListing}
 use Rattle.value_dm.specs.declared.mode.NullMode.{NullMode}
+use Rattle.names_dm.specs.Namespaces.{is_base}
 use Rattle.schema_dm.specs.declared.table.Table.{Table}
 use Rattle.outside_dm.specs.Shelves.{Files, ShelfState, longest}
 use Rattle.outside_dm.specs.Sinks.{SinkState}
@@ -10,12 +12,15 @@ use Rattle.ddl_dm.specs.Schema.{IsDdl}
 use Rattle.table_csv.specs.Cells.{Row}
 use Rattle.table_csv.specs.Databases.{Data}
 use Rattle.table_csv.specs.TableFiles.{IsTableFile}
+use Rattle.keys_dm.specs.Violations.{KeepsKeys, ViolatesAt}
 use Rattle.keys_dm.specs.declared.violation.Violation.{Violation}
 use Rattle.graphs_dm.specs.DirectGraph.{IsDirectText}
 use Rattle.cmd_dm.specs.Check.{check_text}
 use Rattle.cmd_dm.specs.Ending.{NoFault}
 use Rattle.cmd_dm.specs.Folder.{schema_file, table_file}
 use Rattle.cmd_dm.specs.Reasons.{key_reason}
+use Rattle.cmd_dm.specs.declared.command.Command.{Command}
+use Rattle.cmd_dm.specs.declared.command.Command.TheVariants.{Direct, Check}
 use Rattle.cmd_dm.specs.declared.status.Status.{Status}
 use Rattle.cmd_dm.specs.declared.status.Status.TheVariants.{Ok as Done, Refused, Memory}
 
@@ -52,11 +57,20 @@ pub record WritesText (IsText : List ℕ → Type 0) (old new : ShelfState) (bef
   pub no_fault : EndsSo Done old new before after status
   pub written : status ≡ Done → (text : List ℕ) × (IsText text × Appends before.held after.held text)
 
--- no key is violated: the text of the direct graph is written; else without a fault the run is refused for the first violation
-abbrev pub MapsDirectly : List ℕ → Data → List Violation → ShelfState → ShelfState → SinkState → SinkState → Status → Type 0
-MapsDirectly base D [] old new before after status = WritesText (IsDirectText base D) old new before after status
-MapsDirectly base D (violation ∷ others) old new before after status = EndsSo (Refused (key_reason violation)) old new before after status
+-- `direct`: where no key is violated the text of the direct graph is written; else without a fault the run is refused for the
+-- violation that stands first
+pub record MapsDirectly (base : List ℕ) (D : Data) (old new : ShelfState) (before after : SinkState) (status : Status) : Type 0 where
+  pub kept : KeepsKeys D → WritesText (IsDirectText base D) old new before after status
+  pub violated : (first : Violation) (others : List Violation) → IsListing (ViolatesAt D) (first ∷ others) → EndsSo (Refused (key_reason first)) old new before after status
 
--- the lines of the violations, which are all in order, and of their count are written
-abbrev pub Checks : Data → List Violation → ShelfState → ShelfState → SinkState → SinkState → Status → Type 0
-Checks D found old new before after status = WritesText (λ text. text ≡ check_text D.tables found) old new before after status
+-- `check`: the lines of the violations, which are all in order, and of their count are written
+abbrev pub Checks : Data → ShelfState → ShelfState → SinkState → SinkState → Status → Type 0
+Checks D old new before after status =
+    WritesText (λ text. (found : List Violation) × IsListing (ViolatesAt D) found × (text ≡ check_text D.tables found)) old new before after status
+
+-- what each command promises where the shelf tells its files and they are well-formed
+abbrev pub Promises : Command → ShelfState → ShelfState → SinkState → SinkState → Status → Type 0
+Promises (Direct base folder nulls) old new before after status =
+    (files : Files) (D : Data) → old.files ≡ Some files → IsTrue (is_base base) → HoldsDatabase files folder nulls D → MapsDirectly base D old new before after status
+Promises (Check folder nulls) old new before after status =
+    (files : Files) (D : Data) → old.files ≡ Some files → HoldsDatabase files folder nulls D → Checks D old new before after status

@@ -1,18 +1,11 @@
-ghost use Rattle.std.specs.Prelude.{◌≡◌, ◌⊎◌, ◌↔◌, Some, None, List, ℕ, IsTrue, map, string_bytes};
-ghost use Rattle.members_dm.specs.Places.{IsListing};
-ghost use Rattle.names_dm.specs.Namespaces.{is_base};
+ghost use Rattle.std.specs.Prelude.{◌≡◌, ◌⊎◌, ◌↔◌, Some, None, map, string_bytes};
 ghost use Rattle.outside_dm.specs.Shelves.{Files};
-ghost use Rattle.value_dm.specs.declared.mode.NullMode.{NullMode};
-ghost use Rattle.table_csv.specs.Databases.{Data};
-ghost use Rattle.keys_dm.specs.Violations.{ViolatesAt};
-ghost use Rattle.keys_dm.specs.declared.violation.Violation.{Violation};
 ghost use Rattle.cmd_dm.specs.Ending.{Ends, NoFault, result_status};
 ghost use Rattle.cmd_dm.specs.FaultLine.{Tells};
-ghost use Rattle.cmd_dm.specs.Headline.{Checks, HoldsDatabase, MapsDirectly};
+ghost use Rattle.cmd_dm.specs.Headline.{Promises};
 ghost use Rattle.cmd_dm.specs.Plans.{IsOutcome, NamesFile, plan_of};
 ghost use Rattle.cmd_dm.specs.Script.{Outcome, status_of};
 ghost use Rattle.cmd_dm.specs.Words.{command_of};
-ghost use Rattle.cmd_dm.specs.declared.command.Command.TheVariants.{Direct, Check};
 ghost use Rattle.cmd_dm.specs.declared.status.File.{File};
 
 use crate::check::run_check;
@@ -107,17 +100,9 @@ pub fn run<S: Shelf, K: Sink, D: Sink>(
         NoFault (S.state shelf.old) (S.state shelf.new) (K.state out.old) (K.state out.new) →
         ((outcome : Outcome) × IsOutcome files (command_of (map string_bytes words.now)) outcome) ⊎ (result ≡ Status.Memory) }
 
-    // `direct` writes the direct graph of well-formed files whose keys are kept, and else is refused for the first violation.
-    ensures direct { (base folder : List ℕ) (nulls : NullMode) (files : Files) (database : Data) (found : List Violation) →
-        command_of (map string_bytes words.now) ≡ Some (Direct base folder nulls) → (S.state shelf.old).files ≡ Some files →
-        IsTrue (is_base base) → HoldsDatabase files folder nulls database → IsListing (ViolatesAt database) found →
-        MapsDirectly base database found (S.state shelf.old) (S.state shelf.new) (K.state out.old) (K.state out.new) result }
-
-    // `check` writes the lines of the violations of well-formed files.
-    ensures check { (folder : List ℕ) (nulls : NullMode) (files : Files) (database : Data) (found : List Violation) →
-        command_of (map string_bytes words.now) ≡ Some (Check folder nulls) → (S.state shelf.old).files ≡ Some files →
-        HoldsDatabase files folder nulls database → IsListing (ViolatesAt database) found →
-        Checks database found (S.state shelf.old) (S.state shelf.new) (K.state out.old) (K.state out.new) result }
+    // Over told files that are well-formed each command keeps its promise.
+    ensures promise { (command : _) → command_of (map string_bytes words.now) ≡ Some command →
+        Promises command (S.state shelf.old) (S.state shelf.new) (K.state out.old) (K.state out.new) result }
 
     // The line tells how the run ended.
     ensures line { Tells result (D.state diag.old) (D.state diag.new) }

@@ -1,4 +1,4 @@
-use Rattle.cmd_dm.proofs.Promises.{words_unique, words_exact, words_come, names_failed, maps_directly, checks}
+use Rattle.cmd_dm.proofs.Promises.{words_unique, words_exact, words_come, names_failed, promised}
 use Rattle.cmd_dm.proofs.SomeOutcome.{words_some}
 use Rattle.cmd_dm.proofs.top.run.Goals as goal
 
@@ -17,10 +17,5 @@ returns-clause-outcome g c = λ files outcome told comes calm. words_exact _ _ f
 pub returns-clause-comes : goal.returns-clause-comes
 returns-clause-comes g c = λ files told calm. words_come _ _ files c.decide-status.ensures.ends told calm
 
-pub returns-clause-direct : goal.returns-clause-direct
-returns-clause-direct g c = λ base folder nulls files database found is told good held listed.
-    maps_directly base folder nulls files database found _ (c.decide-status.ensures.ends _ is) told good held listed
-
-pub returns-clause-check : goal.returns-clause-check
-returns-clause-check g c = λ folder nulls files database found is told held listed.
-    checks folder nulls files database found _ (c.decide-status.ensures.ends _ is) told held listed
+pub returns-clause-promise : goal.returns-clause-promise
+returns-clause-promise g c = λ command is. promised command _ (c.decide-status.ensures.ends command is)
