@@ -13,11 +13,10 @@ ghost use Rattle.dbrdf.specs.Program.{RunsWords, Untaken, words_of};
 use cmd_dm::{Status, run};
 use outside_dm::{FolderShelf, Shelf, Sink, StreamSink};
 use std::alloc::{AllocError, Global};
-use std::env;
 use std::env::Args;
-use std::io;
 use std::io::{Error, ErrorKind};
 use std::process::ExitCode;
+use std::{env, io};
 
 /// The status of words that can't be taken: want of memory, or a word that isn't UTF-8.
 fn refused_words(error: &Error) -> Status

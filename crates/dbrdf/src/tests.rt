@@ -1,6 +1,7 @@
 use cmd_dm::{Command, Status, fault_text, read_words, run};
 use outside_dm::{
     Calls, Cut, Cuts, FileList, MemoryShelf, MemorySink, NamedFile, NoFaultShelf, NoFaultSink,
+    Shelf, Sink,
 };
 use std::alloc::{AllocError, Global};
 use std::process::Abort;
@@ -498,23 +499,33 @@ fn ending(alloc: Global, status: &Status, out: &[u8], diag: &[u8]) -> Result<Vec
     Ok(whole)
 }
 
+// Runs words over devices.
+fn run_over<S: Shelf, K: Sink, D: Sink>(
+    alloc: Global,
+    words: &str,
+    shelf: &mut S,
+    out: &mut K,
+    diag: &mut D,
+) -> Result<Status, Fail> {
+    let words = words_of(alloc, words)?;
+    Ok(run(alloc, &words, shelf, out, diag))
+}
+
 // A run over devices of which no call fails by their lists.
 fn run_at(alloc: Global, words: &str, files: FileList) -> Result<Vec<u8>, Fail> {
-    let words = words_of(alloc, words)?;
     let mut shelf = MemoryShelf::new(alloc, files, Calls::new(alloc), Calls::new(alloc));
     let mut out = MemorySink::new(alloc, Cuts::new(alloc));
     let mut diag = MemorySink::new(alloc, Cuts::new(alloc));
-    let status = run(alloc, &words, &mut shelf, &mut out, &mut diag);
+    let status = run_over(alloc, words, &mut shelf, &mut out, &mut diag)?;
     ending(alloc, &status, out.bytes(), diag.bytes())
 }
 
 // A run over devices that never fail.
 fn run_without_faults(alloc: Global, words: &str, files: FileList) -> Result<Vec<u8>, Fail> {
-    let words = words_of(alloc, words)?;
     let mut shelf = NoFaultShelf::new(files);
     let mut out = NoFaultSink::new(alloc);
     let mut diag = NoFaultSink::new(alloc);
-    let status = run(alloc, &words, &mut shelf, &mut out, &mut diag);
+    let status = run_over(alloc, words, &mut shelf, &mut out, &mut diag)?;
     ending(alloc, &status, out.bytes(), diag.bytes())
 }
 
@@ -576,6 +587,18 @@ fn refuses_bytes_that_are_no_text(rt: HostRuntime) -> Result<(), Fail> {
     Ok(())
 }
 
+#[test]
+fn refuses_files_that_are_too_long(rt: HostRuntime) -> Result<(), Fail> {
+    let alloc = rt.alloc();
+    // One byte more than a load takes.
+    let long = vec![in alloc; b' '; 268_435_457]?;
+    let schema = line_on(alloc, "d/T.csv", &long, b"")?;
+    assert!(rt; schema.as_slice() == b"7\n! dbrdf: too long schema\n".as_slice());
+    let table = line_on(alloc, "d/T.csv", b"CREATE TABLE T (a INT);", &long)?;
+    assert!(rt; table.as_slice() == b"7\n! dbrdf: too long table 1\n".as_slice());
+    Ok(())
+}
+
 // Which calls of the devices fail, each counted from 1; 0 for none.
 #[derive(Clone, Copy, Drop)]
 struct Failing {
@@ -604,14 +627,17 @@ fn run_failing(alloc: Global, told: &str, failing: Failing) -> Result<Ended, Fai
     let told = told.strip_prefix("$ ").ok_or("no run")?;
     let (given, _) = told.split_once("= ").ok_or("no ending")?;
     let (words, files) = given.split_once('\n').ok_or("no words")?;
-    let words = words_of(alloc, words)?;
     let mut loads = Calls::new(alloc);
     loads.push(failing.load)?;
     let mut shelf = MemoryShelf::new(alloc, files_of(alloc, files)?, loads, Calls::new(alloc));
     let mut out = failing_sink(alloc, failing.put, failing.kept)?;
     let mut diag = failing_sink(alloc, failing.line, 0)?;
-    let number = run(alloc, &words, &mut shelf, &mut out, &mut diag).number();
-    Ok(Ended { number, out, diag })
+    let status = run_over(alloc, words, &mut shelf, &mut out, &mut diag)?;
+    Ok(Ended {
+        number: status.number(),
+        out,
+        diag,
+    })
 }
 
 #[test]
