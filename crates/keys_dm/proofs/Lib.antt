@@ -4,7 +4,8 @@ mod DatabaseLevels
 mod EntryOrder
 mod KeyLists
 mod KeyRanges
-mod OneMatch
+pub mod OneMatch
+mod PositionLists
 mod RowKinds
 mod RowLevels
 mod RowTests
