@@ -16,6 +16,7 @@ use Rattle.keys_dm.specs.Kept.{HasMatches}
 use Rattle.keys_dm.specs.Violations.{KeepsKeys, Violates}
 use Rattle.keys_dm.specs.declared.violation.ViolationKind.{ViolationKind}
 use Rattle.keys_dm.proofs.OneMatch.{kept_matches}
+use Rattle.graphs_dm.specs.DirectGraph.{IsDirectText}
 use Rattle.graphs_dm.specs.Graphs.{GraphRowStandsAt, HasItsTriples, HasOntology, IsDefined, IsGraphText, MarksViolatingRows, MarksViolations, PutsGraph, StandsAt, of_ontology, of_row, row_mark, row_of_class, row_of_relation}
 use Rattle.graphs_dm.specs.Levels.{any_row_level, graph_level, graph_part, ontology_level, ontology_table, relation_row_level, table_level, tables_level, text_of}
 use Rattle.graphs_dm.specs.Nodes.{row_node}

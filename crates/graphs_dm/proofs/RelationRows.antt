@@ -40,9 +40,10 @@ module _ (D : Data) (t i : ℕ) (key : ForeignKey) where
   unfolding referenced
   referenced_has j h = elim (cases_Bool (has_null (cells_at key.columns (row_at (rows_at D.rows t) i)))) [
     | inl null ↦ absurd (rw null at h)
-    | inr whole ↦
-        ((λ n. let both : true ≡ false = sym (in_null (cells_at key.columns (row_at (rows_at D.rows t) i)) n) ∙ whole in cc both),
-        ((rows_with_are (rows_at D.rows key.target) key.target_columns (cells_at key.columns (row_at (rows_at D.rows t) i))).exact j).0 (rw whole at h))
+    | inr whole ↦ (
+      (λ n. let both : true ≡ false = sym (in_null (cells_at key.columns (row_at (rows_at D.rows t) i)) n) ∙ whole in cc both),
+      ((rows_with_are (rows_at D.rows key.target) key.target_columns (cells_at key.columns (row_at (rows_at D.rows t) i))).exact j).0 (rw whole at h),
+    )
   ]
 
   has_referenced : (j : ℕ) → References D t i key j → IsIn j (referenced D key (row_at (rows_at D.rows t) i))

@@ -63,7 +63,14 @@ fn append_column(
     let property = column_iri(alloc, base, table.name.as_str(), column.name.as_str())?;
     let domain = table_iri(alloc, base, table.name.as_str())?;
     let range = Word::Datatype(column.kind).iri(alloc)?;
-    append_property(alloc, &property, Word::OwlDatatypeProperty, domain, range, out)
+    append_property(
+        alloc,
+        &property,
+        Word::OwlDatatypeProperty,
+        domain,
+        range,
+        out,
+    )
 }
 
 fn append_columns(
@@ -96,7 +103,14 @@ fn append_reference(
     let property = ref_iri(alloc, base, table.name.as_str(), &names)?;
     let domain = table_iri(alloc, base, table.name.as_str())?;
     let range = table_iri(alloc, base, table_of(database, key.target).name.as_str())?;
-    append_property(alloc, &property, Word::OwlObjectProperty, domain, range, out)
+    append_property(
+        alloc,
+        &property,
+        Word::OwlObjectProperty,
+        domain,
+        range,
+        out,
+    )
 }
 
 fn append_references(
@@ -126,7 +140,13 @@ fn append_class(
     ensures { OnOk result (out.new.items ≡ out.old.items ++ text_of base.now (class_level base.now database.now.tables table.now)) }
 {
     let class = table_iri(alloc, base, table.name.as_str())?;
-    append_iris(alloc, &class, Word::RdfType, Word::OwlClass.iri(alloc)?, out)?;
+    append_iris(
+        alloc,
+        &class,
+        Word::RdfType,
+        Word::OwlClass.iri(alloc)?,
+        out,
+    )?;
     append_columns(alloc, base, table, out)?;
     append_references(alloc, base, database, table, out)
 }
@@ -148,7 +168,14 @@ fn append_relation(
     let right = target_of(database, t, sides.right);
     let domain = table_iri(alloc, base, left.name.as_str())?;
     let range = table_iri(alloc, base, right.name.as_str())?;
-    append_property(alloc, &property, Word::OwlObjectProperty, domain, range, out)
+    append_property(
+        alloc,
+        &property,
+        Word::OwlObjectProperty,
+        domain,
+        range,
+        out,
+    )
 }
 
 fn append_table(

@@ -373,7 +373,9 @@ fn first_referenced(source: &Source, t: u32, number: u32, row: &[Cell]) -> Optio
     if has_null_at(row, &key.columns) {
         return None;
     }
-    let entries = source.indexes.referenced(source.database, t, number as usize, key, row);
+    let entries = source
+        .indexes
+        .referenced(source.database, t, number as usize, key, row);
     match entries.get(0) {
         None => None,
         Some(entry) => Some(entry.position()),

@@ -5,7 +5,6 @@ mod EntryOrder
 mod KeyLists
 mod KeyRanges
 pub mod OneMatch
-mod PositionLists
 mod RowKinds
 mod RowLevels
 mod RowTests
