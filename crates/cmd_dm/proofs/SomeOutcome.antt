@@ -26,8 +26,7 @@ use Rattle.table_csv.proofs.HeaderLemmas.{fields_differ}
 use Rattle.table_csv.proofs.SomeAnswer.{file_some}
 use Rattle.keys_dm.specs.declared.violation.Violation.{Violation}
 use Rattle.keys_dm.proofs.SomeListing.{violations_some}
-use Rattle.graphs_dm.specs.Levels.{direct_level, text_of}
-use Rattle.graphs_dm.proofs.DirectLevels.{direct_text}
+use Rattle.graphs_dm.proofs.GraphLevels.{some_direct_text}
 use Rattle.cmd_dm.specs.Folder.{schema_file, table_file}
 use Rattle.cmd_dm.specs.Plans.{IsOutcome}
 use Rattle.cmd_dm.specs.Questions.{IsSchemaAnswer, IsRowsAnswer, direct_of, violations_of}
@@ -128,8 +127,8 @@ database_some files folder mode next some none =
 
 graph_some : (files : Files) (base : List ℕ) (D : Data) → SomeComes files (ask (direct_of base D) (λ text. write (text_work text)))
 graph_some files base D none =
-    let text = text_of base (direct_level base D) in
-    none (done (text_work text)) (text, (direct_text base D, refl))
+    let text = some_direct_text base D in
+    none (done (text_work text.0)) (text.0, (text.1, refl))
 
 keys_some : (files : Files) (D : Data) (next : Unit {0} → Script) → SomeComes files (next tt) → SomeComes files (keys_step D next)
 unfolding keys_step

@@ -15,7 +15,7 @@ use Rattle.schema_dm.specs.declared.table.ForeignKey.{ForeignKey}
 use Rattle.schema_dm.specs.declared.table.Table.{Table}
 use Rattle.table_csv.specs.Databases.{Data}
 use Rattle.graphs_dm.specs.Nodes.{row_node}
-use Rattle.graphs_dm.specs.DirectGraph.{line_of, reference_fact}
+use Rattle.graphs_dm.specs.RowFacts.{line_of, reference_fact}
 use Rattle.graphs_dm.specs.Levels.{Placed, links_level, text_of}
 
 module _ (base : List ℕ) where

@@ -1,9 +1,17 @@
 mod KeyRows
 pub mod NodeLaws
 mod KeyNodes
+mod Decisions
+mod RelationTests
+mod PlanSteps
+pub mod SomePlan
 mod LevelTexts
-pub mod DirectLevels
+mod RowLevels
+mod RelationRows
+mod OntologyLevels
+pub mod GraphLevels
 mod KeyTexts
 mod Keys
 mod LineTexts
+mod OntologyTexts
 mod StreamLaws

@@ -1,5 +1,5 @@
 -- Lines that are made of prepared texts are the lines of the graph.
-use Rattle.std.proofs.Common.{◌≡◌, ◌∙◌, ◌++◌, ◌∷◌, [], ◌+◌, ◌<◌, ℕ, suc, zero, List, None, Some, Option, true, refl, sym, ap, arith, inl, inr, append_assoc, length, add-one, map}
+use Rattle.std.proofs.Common.{◌≡◌, Bool, ◌∙◌, ◌++◌, ◌∷◌, [], ◌+◌, ◌<◌, ℕ, suc, zero, List, None, Some, Option, true, false, refl, sym, ap, arith, inl, inr, append_assoc, length, add-one, map}
 use Rattle.std.specs.Prelude.{encode_utf8_all, codes, slice_get}
 use Rattle.std.specs.Option.{option_map}
 use Rattle.std.specs.List.{flat_map, list_all}
@@ -11,7 +11,9 @@ use Rattle.std.proofs.lemmas.Bool.{cases_Bool, ltb-true}
 use Rattle.std.proofs.lemmas.List.{length-map}
 use Rattle.std.proofs.lemmas.Option.{slice_get-map}
 use Rattle.std.proofs.lemmas.Str.{encodes-IsAscii}
-use Rattle.members_dm.specs.Places.{levels}
+use Rattle.members_dm.specs.Places.{levels, one_item}
+use Rattle.schema_dm.specs.declared.table.Binary.{Binary}
+use Rattle.graphs_dm.specs.Relations.{left_key, relation_of, right_key}
 use Rattle.members_dm.proofs.ElementsLemmas.{item_at_index}
 use Rattle.value_dm.specs.Kinds.{kind_of}
 use Rattle.value_dm.specs.Lexical.{lexical_form}
@@ -24,15 +26,15 @@ use Rattle.names_dm.specs.Names.{column_iri, ref_iri, table_iri}
 use Rattle.ntriples_dm.specs.Written.{quoted_text, term_text, triple_text, type_text}
 use Rattle.table_csv.specs.Cells.{Cell, Row, cells_at}
 use Rattle.table_csv.specs.Databases.{Data, rows_at}
-use Rattle.graphs_dm.specs.DirectGraph.{line_of, literal_fact, reference_fact, type_fact}
-use Rattle.graphs_dm.specs.Heads.{cell_line, class_end, column_head, framed, reference_head, up_to, value_line}
-use Rattle.graphs_dm.specs.Levels.{Placed, cell_level, cells_level, cells_links, key_level, keys_level, row_group, text_of}
-use Rattle.graphs_dm.specs.Lines.{key_line, keys_line, link_line}
+use Rattle.graphs_dm.specs.RowFacts.{line_of, literal_fact, reference_fact, type_fact}
+use Rattle.graphs_dm.specs.Heads.{cell_line, class_end, column_head, framed, reference_head, relation_head, up_to, value_line}
+use Rattle.graphs_dm.specs.Levels.{Placed, cell_level, cells_level, cells_links, key_level, keys_level, row_group, text_of, mark_level, pair_level}
+use Rattle.graphs_dm.specs.Lines.{key_line, keys_line, link_line, mark_line}
 use Rattle.graphs_dm.specs.Nodes.{has_null, row_node, rows_with}
-use Rattle.graphs_dm.proofs.LevelTexts.{text_of-level, text_of-links, text_of-no_level, text_of-none, text_of-one, text_of-three}
-use Rattle.facts_dm.specs.Facts.{Node, node_term, ref_link_iri}
+use Rattle.graphs_dm.proofs.LevelTexts.{text_of-level, text_of-links, text_of-no_level, text_of-none, text_of-one, text_of-three, text_of-under}
+use Rattle.facts_dm.specs.Facts.{Node, a_link, a_mark, link_iri, node_term, ref_link_iri}
 use Rattle.facts_dm.specs.Vocabulary.{literal_type, word_iri}
-use Rattle.facts_dm.specs.declared.word.Word.TheVariants.{RdfType}
+use Rattle.facts_dm.specs.declared.word.Word.TheVariants.{OwlDifferentFrom, RdfType}
 use Rattle.schema_dm.specs.Naming.{name_at}
 
 -- ---- texts of places
@@ -68,6 +70,9 @@ value_parts s sp lt p gt q f e = simp append_assoc
 link_parts : (s sp lt p gt n e : List ℕ) → s ++ (((sp ++ lt) ++ (p ++ (gt ++ sp))) ++ (n ++ e)) ≡ ((((s ++ sp) ++ (lt ++ (p ++ gt))) ++ sp) ++ n) ++ e
 link_parts s sp lt p gt n e = simp append_assoc
 
+mark_parts : (s sp lt w gt e : List ℕ) → s ++ ((sp ++ (lt ++ (w ++ (gt ++ sp)))) ++ (s ++ e)) ≡ ((((s ++ sp) ++ (lt ++ (w ++ gt))) ++ sp) ++ s) ++ e
+mark_parts s sp lt w gt e = simp append_assoc
+
 join_type : (s w i : List ℕ) → s ++ ((32 ∷ 60 ∷ []) ++ (w ++ ((62 ∷ 32 ∷ 60 ∷ []) ++ (i ++ codes "> .\n")))) ≡ ((((s ++ (32 ∷ [])) ++ (60 ∷ w ++ (62 ∷ []))) ++ (32 ∷ [])) ++ (60 ∷ i ++ (62 ∷ []))) ++ codes " .\n"
 join_type s w i = type_parts s (32 ∷ []) (60 ∷ []) w (62 ∷ []) i (codes " .\n")
 
@@ -80,7 +85,7 @@ join_value s p q e =
 join_link : (s p n : List ℕ) → s ++ (((32 ∷ 60 ∷ []) ++ (p ++ (62 ∷ 32 ∷ []))) ++ (n ++ codes " .\n")) ≡ ((((s ++ (32 ∷ [])) ++ (60 ∷ p ++ (62 ∷ []))) ++ (32 ∷ [])) ++ n) ++ codes " .\n"
 join_link s p n = link_parts s (32 ∷ []) (60 ∷ []) p (62 ∷ []) n (codes " .\n")
 
-link_is : (base : List ℕ) (table : Table) (columns : List ℕ) → 0 < length columns
+pub link_is : (base : List ℕ) (table : Table) (columns : List ℕ) → 0 < length columns
     → ref_iri base (record { table = table.name; columns = map (name_at table.columns) columns }) ≡ ref_link_iri base table.name (map (name_at table.columns) columns)
 link_is base table [] some = absurd (omega arith)
 link_is base table (place ∷ columns) some = refl
@@ -165,15 +170,51 @@ module _ (base : List ℕ) where
           (λ k below. ap (λ (head : Option (List ℕ)). keys_line base D (term_text (node_term node)) head (slice_get table.foreign k) row) (slice_get-map (reference_head base table) table.foreign k)
           ∙ keys_line_is (slice_get table.foreign k) row (λ key is. (lawful.foreign key (item_at_index key table.foreign k is)).columns.some)))
 
-      -- all lines of a row
-      pub row_lines : (row : Row) (cells keys : List ℕ) → cells ≡ text_of base (cells_level node table row) → keys ≡ text_of base (keys_level base D node table row)
-          → (old : List ℕ) → (((old ++ term_text (node_term node)) ++ class_end base table) ++ cells) ++ keys ≡ old ++ text_of base (levels 3 (row_group base D node table row))
-      row_lines row cells keys are_cells are_keys old =
+      three_lines : (row : Row) (marked : Bool) (cells keys : List ℕ) → cells ≡ text_of base (cells_level node table row) → keys ≡ text_of base (keys_level base D node table row)
+          → (old : List ℕ) → (((old ++ term_text (node_term node)) ++ class_end base table) ++ cells) ++ keys ≡ old ++ text_of base (levels 3 (row_group base D node table row marked))
+      three_lines row marked cells keys are_cells are_keys old =
           let s = term_text (node_term node) in
           append_assoc ((old ++ s) ++ class_end base table) cells keys ∙ append_assoc (old ++ s) (class_end base table) (cells ++ keys) ∙ append_assoc old s (class_end base table ++ (cells ++ keys))
           ∙ ap (λ (l : List ℕ). old ++ l)
           (sym (append_assoc s (class_end base table) (cells ++ keys))
           ∙ ap (λ (l : List ℕ). l ++ (cells ++ keys)) (class_line ∙ sym (text_of-one base (type_fact node table)))
-          ∙ ap (λ (l : List ℕ). text_of base (row_group base D node table row 0) ++ (l ++ keys)) are_cells
-          ∙ ap (λ (l : List ℕ). text_of base (row_group base D node table row 0) ++ (text_of base (row_group base D node table row 1) ++ l)) are_keys
-          ∙ sym (text_of-three base (row_group base D node table row)))
+          ∙ ap (λ (l : List ℕ). text_of base (row_group base D node table row marked 0) ++ (l ++ keys)) are_cells
+          ∙ ap (λ (l : List ℕ). text_of base (row_group base D node table row marked 0) ++ (text_of base (row_group base D node table row marked 1) ++ l)) are_keys
+          ∙ sym (text_of-three base (row_group base D node table row marked)))
+
+      mark_line_is : (marked : Bool) → mark_line marked (term_text (node_term node)) ≡ text_of base (mark_level marked node)
+      unfolding mark_line triple_text
+      mark_line_is true =
+          let s = term_text (node_term node) in
+          mark_parts s (32 ∷ []) (60 ∷ []) (word_iri OwlDifferentFrom) (62 ∷ []) (codes " .\n")
+          ∙ ap (λ (l : List ℕ). ((((s ++ (32 ∷ [])) ++ (60 ∷ l ++ (62 ∷ []))) ++ (32 ∷ [])) ++ s) ++ codes " .\n") (sym (encodes-IsAscii (word_iri OwlDifferentFrom) (ascii_text (word_iri OwlDifferentFrom) refl)))
+          ∙ sym (text_of-one base (a_mark node))
+      mark_line_is false = sym (text_of-none base)
+
+      -- all lines of a row
+      pub row_lines : (row : Row) (marked : Bool) (cells keys : List ℕ) → cells ≡ text_of base (cells_level node table row) → keys ≡ text_of base (keys_level base D node table row)
+          → (old : List ℕ) → ((((old ++ term_text (node_term node)) ++ class_end base table) ++ cells) ++ keys) ++ mark_line marked (term_text (node_term node)) ≡ old ++ text_of base (levels 4 (row_group base D node table row marked))
+      row_lines row marked cells keys are_cells are_keys old =
+          ap (λ (l : List ℕ). l ++ mark_line marked (term_text (node_term node))) (three_lines row marked cells keys are_cells are_keys old)
+          ∙ append_assoc old (text_of base (levels 3 (row_group base D node table row marked))) (mark_line marked (term_text (node_term node)))
+          ∙ ap (λ (l : List ℕ). old ++ (text_of base (levels 3 (row_group base D node table row marked)) ++ l)) (mark_line_is marked)
+          ∙ ap (λ (l : List ℕ). old ++ l) (sym (text_of-level base 3 (row_group base D node table row marked)))
+
+module _ (base : List ℕ) (D : Data) (t : ℕ) (sides : Binary) where
+  pub no_left : (first second : Option ℕ) → first ≡ None → text_of base (pair_level base D t sides first second) ≡ []
+  no_left first second none = ap (λ (o : Option ℕ). text_of base (pair_level base D t sides o second)) none ∙ text_of-none base
+
+  pub no_right : (first second : Option ℕ) (j : ℕ) → first ≡ Some j → second ≡ None → text_of base (pair_level base D t sides first second) ≡ []
+  no_right first second j some none = (λ s. text_of base (pair_level base D t sides (some s) (none s))) ∙ text_of-none base
+
+  pub pair_line : (first second : Option ℕ) (head : List ℕ) (j l : ℕ) → first ≡ Some j → second ≡ Some l → head ≡ relation_head base D.tables t sides
+      → link_line base D (term_text (node_term (row_node base D (left_key D.tables t sides).target j))) head (right_key D.tables t sides).target l ≡ text_of base (pair_level base D t sides first second)
+  unfolding triple_text link_line relation_head framed
+  pair_line first second head j l is_first is_second is_head =
+      let s = term_text (node_term (row_node base D (left_key D.tables t sides).target j)) in
+      let n = term_text (node_term (row_node base D (right_key D.tables t sides).target l)) in
+      let fact = a_link (row_node base D (left_key D.tables t sides).target j) (relation_of D.tables t sides) (row_node base D (right_key D.tables t sides).target l) in
+      ap (λ (h : List ℕ). s ++ (h ++ (n ++ codes " .\n"))) is_head
+      ∙ join_link s (encode_utf8_all (link_iri base (relation_of D.tables t sides))) n
+      ∙ sym (text_of-one base fact) ∙ sym (text_of-under base 0 (one_item fact))
+      ∙ sym (λ i. text_of base (pair_level base D t sides (is_first i) (is_second i)))

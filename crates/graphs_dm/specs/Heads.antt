@@ -5,16 +5,22 @@ use Rattle.value_dm.specs.declared.value.Value.{Value}
 use Rattle.value_dm.specs.Kinds.{kind_of}
 use Rattle.value_dm.specs.Lexical.{lexical_form}
 use Rattle.schema_dm.specs.declared.draft.Column.{Column}
+use Rattle.schema_dm.specs.declared.table.Binary.{Binary}
+use Rattle.facts_dm.specs.Facts.{link_iri}
+use Rattle.graphs_dm.specs.Relations.{relation_of}
 use Rattle.schema_dm.specs.declared.table.ForeignKey.{ForeignKey}
 use Rattle.schema_dm.specs.declared.table.Table.{Table}
 use Rattle.names_dm.specs.IriSafe.{safe_form}
 use Rattle.names_dm.specs.Names.{column_iri, equals_sign, ref_iri, semicolon, table_iri}
 use Rattle.names_dm.specs.Rows.{key_pair}
 use Rattle.names_dm.specs.declared.key.KeyPart.{KeyPart}
-use Rattle.ntriples_dm.specs.Written.{quoted_text, type_text}
+use Rattle.ntriples_dm.specs.Written.{quoted_text, triple_text, type_text}
+use Rattle.names_dm.specs.declared.term.Term.TheVariants as term
+use Rattle.facts_dm.specs.declared.word.Word.{Word}
+use Rattle.facts_dm.specs.declared.word.Word.TheVariants.{RdfType, RdfsDomain, RdfsRange}
 use Rattle.table_csv.specs.Cells.{Cell}
 use Rattle.graphs_dm.specs.declared.heads.TableHeads.{TableHeads}
-use Rattle.facts_dm.specs.Vocabulary.{literal_type}
+use Rattle.facts_dm.specs.Vocabulary.{literal_type, word_iri}
 use Rattle.schema_dm.specs.Naming.{name_at}
 
 -- an IRI between two texts
@@ -56,6 +62,10 @@ pub record AreHeads (base : List ℕ) (table : Table) (heads : TableHeads) : Typ
 abbrev pub AreAllHeads : List ℕ → List Table → List TableHeads → Type 0
 AreAllHeads base tables heads = AllZip (AreHeads base) tables heads
 
+-- what stands between the nodes of a row of a relation
+unfoldable pub relation_head : List ℕ → List Table → ℕ → Binary → List ℕ
+relation_head base tables t sides = framed (codes " <") (link_iri base (relation_of tables t sides)) (codes "> ")
+
 -- ---- lines
 
 -- the line of a literal
@@ -83,3 +93,13 @@ added first (part ∷ parts) = (if first then [] else semicolon ∷ []) ++ key_p
 abbrev pub still_first : Bool → List KeyPart → Bool
 still_first first [] = first
 still_first first (part ∷ parts) = false
+
+-- ---- the ontology
+
+-- the line of a triple of IRIs, the predicate a word
+unfoldable pub iri_line : List ℕ → Word → List ℕ → List ℕ
+iri_line subject predicate object = triple_text (record { subject = term.Iri subject; predicate = word_iri predicate; object = term.Iri object })
+
+-- the lines that a property is one of this sort, of its domain and of its range
+unfoldable pub property_lines : List ℕ → Word → List ℕ → List ℕ → List ℕ
+property_lines property sort domain range = iri_line property RdfType (word_iri sort) ++ (iri_line property RdfsDomain domain ++ iri_line property RdfsRange range)

@@ -1,9 +1,13 @@
 pub mod Nodes
 pub mod OwnNodes
 pub mod KeyNodes
+pub mod RowFacts
+pub mod Relations
+pub mod Ontology
+pub mod Graphs
 pub mod DirectGraph
+pub mod Plans
 pub mod Levels
-pub mod Subjects
 pub mod Heads
 pub mod Streams
 pub mod Lines

@@ -1,13 +1,20 @@
 //! The graphs of a database.
 #![tactic(auto)]
 
+mod graph_name;
 mod heads;
 mod nodes;
+mod ontology;
+mod plan;
+mod relations;
 mod rows;
 mod triples;
 mod writer;
 
-pub use writer::write_direct;
+pub use graph_name::GraphName;
+pub use writer::{
+    write_direct, write_direct_by, write_map, write_map_by, write_map_keys, write_map_keys_by,
+};
 
 #[cfg(test)]
 mod tests;

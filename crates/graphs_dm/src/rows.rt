@@ -8,9 +8,10 @@ ghost use Rattle.keys_dm.specs.Entries.{positions_of};
 ghost use Rattle.keys_dm.specs.TableIndexes.{AreIndexesOf};
 ghost use Rattle.keys_dm.specs.declared.index.Entry.{Entry as TheEntry};
 ghost use Rattle.ntriples_dm.specs.Written.{iri_text, term_text};
-ghost use Rattle.graphs_dm.specs.Heads.{AreAllHeads, AreHeads, added, cell_line, part_head, primary_places, still_first, up_to, value_line};
-ghost use Rattle.graphs_dm.specs.Levels.{row_group, row_level, text_of};
-ghost use Rattle.graphs_dm.specs.Lines.{key_line, keys_line, link_line};
+ghost use Rattle.graphs_dm.specs.Heads.{AreAllHeads, AreHeads, added, cell_line, part_head, primary_places, relation_head, still_first, up_to, value_line};
+ghost use Rattle.graphs_dm.specs.Levels.{referenced, relation_row_level, row_group, row_level, text_of};
+ghost use Rattle.graphs_dm.specs.Relations.{key_at};
+ghost use Rattle.graphs_dm.specs.Lines.{key_line, keys_line, link_line, mark_line};
 ghost use Rattle.graphs_dm.specs.Nodes.{key_parts, part_of, primary_parts, row_node};
 ghost use Rattle.graphs_dm.specs.OwnNodes.{HasRow};
 ghost use Rattle.facts_dm.specs.Facts.{Node, blank, node_term};
@@ -19,11 +20,13 @@ ghost use Rattle.schema_dm.specs.Naming.{name_at};
 ghost use Rattle.names_dm.specs.Labels.{row_label};
 
 use crate::heads::{Heads, TableHeads};
+use crate::plan::Plan;
+use crate::relations::key_of;
 use itoa::Buffer;
 use keys_dm::{Entry, KeyIndexes, has_null_at, rows_of, table_of};
 use lines_dm::{append_part, append_value, line_end};
 use names_dm::Base;
-use schema_dm::{Column, ForeignKey, Places, Table};
+use schema_dm::{Binary, Column, ForeignKey, Places, Table};
 use std::alloc::{AllocError, Global};
 use table_csv::Database;
 use value_dm::{Bytes, Cell, Value};
@@ -36,6 +39,7 @@ pub struct Source<'a> {
     pub database: &'a Database,
     pub indexes: &'a KeyIndexes,
     pub heads: &'a Heads,
+    pub plan: &'a Plan,
 }
 
 // ---- literals
@@ -296,6 +300,20 @@ fn append_keys(
     Ok(())
 }
 
+// Appends the mark of a subject, where it is marked.
+#[tactic(auto, unfolding(crate::specs::Lines::mark_line))]
+fn append_mark(subject: &[u8], marked: bool, out: &mut Vec<u8>) -> Result<(), AllocError>
+    ensures { OnOk result (out.new.items ≡ out.old.items ++ mark_line marked subject.now) }
+{
+    if !marked {
+        return Ok(());
+    }
+    out.extend_from_slice(subject)?;
+    out.extend_from_slice(b" <http://www.w3.org/2002/07/owl#differentFrom> ")?;
+    out.extend_from_slice(subject)?;
+    out.extend_from_slice(b" .\n")
+}
+
 // Appends the lines of a row of the table with this subject.
 fn append_lines(
     source: &Source,
@@ -303,6 +321,7 @@ fn append_lines(
     heads: &TableHeads,
     subject: &[u8],
     row: &[Cell],
+    marked: bool,
     out: &mut Vec<u8>,
 ) -> Result<(), AllocError>
     requires table { t < length source.now.database.now.tables }
@@ -311,12 +330,13 @@ fn append_lines(
     requires indexes { AreIndexesOf source.now.database.now source.now.indexes.now }
     requires heads { AreAllHeads source.now.base.now source.now.database.now.tables source.now.heads.now }
     ensures { (node : Node) → subject.now ≡ term_text (node_term node) →
-        OnOk result (out.new.items ≡ out.old.items ++ text_of source.now.base.now (levels 3 (row_group source.now.base.now source.now.database.now node (table_at source.now.database.now.tables t) row.now))) }
+        OnOk result (out.new.items ≡ out.old.items ++ text_of source.now.base.now (levels 4 (row_group source.now.base.now source.now.database.now node (table_at source.now.database.now.tables t) row.now marked))) }
 {
     out.extend_from_slice(subject)?;
     out.extend_from_slice(heads.class_text.as_slice())?;
     append_cells(source.alloc, subject, heads.columns.as_slice(), row, out)?;
-    append_keys(source, t, heads.references.as_slice(), subject, row, out)
+    append_keys(source, t, heads.references.as_slice(), subject, row, out)?;
+    append_mark(subject, marked, out)
 }
 
 /// Appends the lines of the row at this place. The subject is written to a buffer of its own, whatever that held.
@@ -330,11 +350,71 @@ pub fn append_row(
     requires has { HasRow source.now.database.now t i }
     requires indexes { AreIndexesOf source.now.database.now source.now.indexes.now }
     requires heads { AreAllHeads source.now.base.now source.now.database.now.tables source.now.heads.now }
-    ensures { OnOk result (out.new.items ≡ out.old.items ++ text_of source.now.base.now (row_level source.now.base.now source.now.database.now t i)) }
+    ensures { OnOk result (out.new.items ≡ out.old.items ++ text_of source.now.base.now (row_level source.now.base.now source.now.database.now source.now.plan.now t i)) }
 {
     let row = source.database.rows_of(t).row(i);
     let heads = &source.heads.as_slice()[t as usize];
     subject.clear();
     append_node(source, t, i, subject)?;
-    append_lines(source, t, heads, subject.as_slice(), row, out)
+    let marked = source.plan.is_marked(t, i);
+    append_lines(source, t, heads, subject.as_slice(), row, marked, out)
+}
+
+// ---- rows of relations
+
+// The position of the first row that a row of the table references by its foreign key of this number.
+fn first_referenced(source: &Source, t: u32, number: u32, row: &[Cell]) -> Option<usize>
+    requires table { t < length source.now.database.now.tables }
+    requires number { number < length (table_at source.now.database.now.tables t).foreign }
+    requires indexes { AreIndexesOf source.now.database.now source.now.indexes.now }
+    ensures { result ≡ slice_get (referenced source.now.database.now (key_at source.now.database.now.tables t number) row.now) 0 }
+{
+    let key = key_of(source.database, t, number);
+    if has_null_at(row, &key.columns) {
+        return None;
+    }
+    let entries = source
+        .indexes
+        .referenced(source.database, t, number as usize, key, row);
+    match entries.get(0) {
+        None => None,
+        Some(entry) => Some(entry.position()),
+    }
+}
+
+/// Appends the line of the row at this place of the relation that the table is, with this text between the nodes. The first
+/// node is written to a buffer of its own, whatever that held.
+pub fn append_pair(
+    source: &Source,
+    t: u32,
+    sides: Binary,
+    head: &[u8],
+    i: usize,
+    subject: &mut Vec<u8>,
+    out: &mut Vec<u8>,
+) -> Result<(), AllocError>
+    requires has { HasRow source.now.database.now t i }
+    requires left { sides.left < length (table_at source.now.database.now.tables t).foreign }
+    requires right { sides.right < length (table_at source.now.database.now.tables t).foreign }
+    requires head { head.now ≡ relation_head source.now.base.now source.now.database.now.tables t sides }
+    requires indexes { AreIndexesOf source.now.database.now source.now.indexes.now }
+    requires heads { AreAllHeads source.now.base.now source.now.database.now.tables source.now.heads.now }
+    ensures { OnOk result (out.new.items ≡ out.old.items ++ text_of source.now.base.now (relation_row_level source.now.base.now source.now.database.now t sides i)) }
+{
+    let row = source.database.rows_of(t).row(i);
+    let left = first_referenced(source, t, sides.left, row);
+    let right = first_referenced(source, t, sides.right, row);
+    match left {
+        None => Ok(()),
+        Some(j) => match right {
+            None => Ok(()),
+            Some(l) => {
+                let from = key_of(source.database, t, sides.left).target;
+                let to = key_of(source.database, t, sides.right).target;
+                subject.clear();
+                append_node(source, from, j, subject)?;
+                append_link(source, subject.as_slice(), head, to, l, out)
+            }
+        },
+    }
 }

@@ -4,7 +4,7 @@ mod DatabaseLevels
 mod EntryOrder
 mod KeyLists
 mod KeyRanges
-mod OneMatch
+pub mod OneMatch
 mod RowKinds
 mod RowLevels
 mod RowTests

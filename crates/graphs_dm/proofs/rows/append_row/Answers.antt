@@ -34,4 +34,4 @@ returns c =
     let node = row_node base D c.args.t c.args.i in
     let row = c.row-row.ensures ∙ ap (λ (rows : List Row). row_at rows c.args.i) c.rows_of.ensures.value in
     let subject : c.as_slice-2.result.now ≡ term_text (node_term node) = c.as_slice-2.ensures.value ∙ c.in_ok-append_node.ensures ∙ ap (λ (l : List ℕ). l ++ term_text (node_term node)) c.clear.ensures.items in
-    on_more c.append_lines.result c.append_lines.new.out.items c.args.out.now.items _ _ (c.append_lines.ensures node subject) (λ s. text_of base (levels 3 (row_group base D node (table_at D.tables c.args.t) (row s))))
+    on_more c.append_lines.result c.append_lines.new.out.items c.args.out.now.items _ _ (c.append_lines.ensures node subject) (λ s. text_of base (levels 4 (row_group base D node (table_at D.tables c.args.t) (row s) (c.is_marked-marked.ensures s))))
