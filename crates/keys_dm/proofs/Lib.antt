@@ -1,12 +1,12 @@
-mod AddingLemmas
-mod CellOrder
+pub mod AddingLemmas
+pub mod CellOrder
 mod DatabaseLevels
 mod EntryOrder
-mod KeyLists
+pub mod KeyLists
 mod KeyRanges
 pub mod OneMatch
 mod RowKinds
-mod RowLevels
+pub mod RowLevels
 mod RowTests
 pub mod SomeListing
 mod TwinLemmas
