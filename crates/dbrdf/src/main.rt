@@ -2,13 +2,13 @@
 //! host, standard output and standard error.
 #![tactic(auto)]
 
-ghost use Rattle.std.specs.Prelude.{◌≡◌, IfOk, drop};
+ghost use Rattle.std.specs.Prelude.{◌≡◌, IfOk, drop, map, string_bytes};
 ghost use Rattle.std.specs.IoError.{error_kind};
 ghost use Rattle.std.specs.Process.{exit_status};
 ghost use Rattle.std.specs.Vec.Iter.{into_iter_items};
 ghost use Rattle.cmd_dm.specs.Statuses.{number_of};
 ghost use Rattle.cmd_dm.specs.declared.status.Status.{Status};
-ghost use Rattle.dbrdf.specs.Program.{RunsWords, Untaken, words_of};
+ghost use Rattle.dbrdf.specs.Program.{Ran, RunsWords, Untaken, words_of};
 
 use cmd_dm::{Status, run};
 use outside_dm::{FolderShelf, Shelf, Sink, StreamSink};
@@ -50,6 +50,21 @@ fn behind_name(words: &[String]) -> &[String]
     }
 }
 
+/// Runs the command that these words stand for, over these devices.
+fn run_command<S: Shelf, K: Sink, D: Sink>(
+    alloc: Global,
+    words: &[String],
+    shelf: &mut S,
+    out: &mut K,
+    diag: &mut D,
+) -> Status
+    ensures { Ran (map string_bytes words.now)
+        (record { shelf = S.state shelf.old; output = K.state out.old; line = D.state diag.old })
+        (record { shelf = S.state shelf.new; output = K.state out.new; line = D.state diag.new }) result }
+{
+    run(alloc, words, shelf, out, diag)
+}
+
 /// Runs the command that the words of the command line stand for, over these devices.
 fn run_words<S: Shelf, K: Sink, D: Sink>(
     alloc: Global,
@@ -64,7 +79,7 @@ fn run_words<S: Shelf, K: Sink, D: Sink>(
 {
     match words {
         Ok(words) => match all_words(alloc, words) {
-            Ok(all) => run(alloc, behind_name(all.as_slice()), shelf, out, diag),
+            Ok(all) => run_command(alloc, behind_name(all.as_slice()), shelf, out, diag),
             Err(AllocError) => Status::Memory,
         },
         Err(error) => refused_words(&error),

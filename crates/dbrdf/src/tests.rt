@@ -1,4 +1,5 @@
-use cmd_dm::{Command, Status, fault_text, read_words, run};
+use crate::run_command;
+use cmd_dm::{Command, Status, fault_text, read_words};
 use outside_dm::{
     Calls, Cut, Cuts, FileList, MemoryShelf, MemorySink, NamedFile, NoFaultShelf, NoFaultSink,
     Shelf, Sink,
@@ -508,7 +509,7 @@ fn run_over<S: Shelf, K: Sink, D: Sink>(
     diag: &mut D,
 ) -> Result<Status, Fail> {
     let words = words_of(alloc, words)?;
-    Ok(run(alloc, &words, shelf, out, diag))
+    Ok(run_command(alloc, &words, shelf, out, diag))
 }
 
 // A run over devices of which no call fails by their lists.

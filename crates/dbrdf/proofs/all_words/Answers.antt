@@ -1,4 +1,4 @@
-use Rattle.std.proofs.Common.{◌≡◌, ◌∙◌, sym, ap, append-nil, List, ◌++◌, [], ◌∷◌, String, Global}
+use Rattle.std.proofs.Common.{◌∙◌, sym, ap, append-nil, List, ◌++◌, [], ◌∷◌, String, Global}
 use Rattle.std.proofs.lemmas.List.{append_assoc, nil_from_length}
 use Rattle.std.specs.Vec.Iter.{into_iter_items}
 use Rattle.dbrdf.proofs.all_words.Goals as goal
