@@ -1,0 +1,10 @@
+mod DanglingSteps
+mod FirstKey
+mod KeptLoops
+mod KeptRows
+mod Largest
+mod LoneRows
+mod OneCleaning
+mod ReferenceLemmas
+mod RepeatedSteps
+mod RowSetLemmas
