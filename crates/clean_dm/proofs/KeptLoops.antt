@@ -4,6 +4,7 @@ use Rattle.std.specs.Prelude.{◌↔◌}
 use Rattle.std.proofs.lemmas.List.{take_more}
 use Rattle.members_dm.specs.Elements.{HasSome}
 use Rattle.members_dm.specs.Places.{IsListing, Place}
+use Rattle.members_dm.proofs.ElementsLemmas.{split_at_item}
 use Rattle.schema_dm.specs.declared.table.Table.{Table}
 use Rattle.table_csv.specs.Cells.{AreRowsOf, Row}
 use Rattle.table_csv.specs.Databases.{Data, IsDatabase, rows_at}
@@ -12,7 +13,7 @@ use Rattle.keys_dm.specs.Adding.{Adds, StandsBelow, StartsBelow}
 use Rattle.keys_dm.specs.KeyCells.{row_at}
 use Rattle.clean_dm.specs.Kept.{AreNumbered, AreRowsOfPart, IsKept, RowsExist, StandsIn}
 use Rattle.clean_dm.specs.Parts.{IsRow}
-use Rattle.clean_dm.specs.Removing.{IsLeft, IsOf}
+use Rattle.clean_dm.specs.Removing.{IsChain, IsDue, IsLeft, IsOf}
 use Rattle.clean_dm.specs.RowSets.{Gains, Has}
 use Rattle.clean_dm.specs.declared.removal.Removal.{Removal}
 use Rattle.clean_dm.specs.declared.row_set.RowSet.{RowSet}
@@ -106,3 +107,10 @@ numbered D removals fits exist removal among =
     let few = few_rows D.tables D.rows found.0 fits.rows in
     let few_tables = fits.schema.few in
     (omega arith, omega arith, omega arith, omega arith)
+
+-- the rows of removals that were due exist
+pub rows_exist : (D : Data) (removals : List Removal) → IsDatabase D → IsChain (λ made removal. (place : Place) × IsDue D made place removal) removals → RowsExist D removals
+rows_exist D removals fits chain removal among =
+    let parts = split_at_item removal removals among in
+    let due = (chain parts.0 parts.1 removal parts.2).1 in
+    (due.t, due.i, due.of_row, row_within D fits due.t due.i due.is_row, due.is_row)

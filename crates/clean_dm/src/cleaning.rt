@@ -1,6 +1,7 @@
 ghost use Rattle.std.specs.Prelude.{◌≡◌, ◌↔◌, ℕ, List, ◌<◌, ◌≤◌, [], ◌∷◌, ◌++◌, ◌+◌, ◌-◌, IfOk, IsTrue, OnOk, length};
 ghost use Rattle.table_csv.specs.Databases.{IsDatabase};
 ghost use Rattle.keys_dm.specs.TableIndexes.{AreIndexesOf};
+ghost use Rattle.clean_dm.specs.Kept.{RowsExist};
 ghost use Rattle.clean_dm.specs.Parts.{IsLargestPart};
 ghost use Rattle.clean_dm.specs.Removing.{IsCertificate, IsCleaning, IsDone, IsLeft, turn_of};
 ghost use Rattle.clean_dm.specs.RowSets.{Has, Loses, set_len};
@@ -119,6 +120,7 @@ fn remove_if_left(cleaning: &mut Cleaning, violation: &Violation) -> Result<(), 
 pub fn clean(alloc: Global, database: &Database) -> Result<Removals, AllocError>
     ensures cleaned { IfOk result (IsCleaning database.now) }
     ensures only { IfOk result (λ removals. (other : List TheRemoval) → IsCleaning database.now other → other ≡ removals) }
+    ensures exist { IfOk result (RowsExist database.now) }
     ensures certified { IfOk result (IsCertificate database.now) }
     ensures largest { IfOk result (λ removals. IsLargestPart database.now (IsLeft removals)) }
 {

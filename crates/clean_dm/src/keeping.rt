@@ -36,7 +36,12 @@ fn push_if(alloc: Global, row: &Cells, holds: bool, rows: &mut Rows) -> Result<(
 }
 
 // The rows of the table that aren't gone, in order.
-fn kept_of(alloc: Global, database: &Database, gone: &RowSet, table: u32) -> Result<Rows, AllocError>
+fn kept_of(
+    alloc: Global,
+    database: &Database,
+    gone: &RowSet,
+    table: u32,
+) -> Result<Rows, AllocError>
     requires { table < length database.now.tables }
     ensures { IfOk result (IsListing (StandsIn database.now (IsKept gone.now) table)) }
 {

@@ -1,7 +1,8 @@
 use Rattle.std.proofs.Common.{subst, sym, List}
 use Rattle.clean_dm.specs.Working.{IsUnderWay}
 use Rattle.clean_dm.specs.declared.removal.Removal.{Removal}
-use Rattle.clean_dm.proofs.OneCleaning.{cleaning_is_largest, one_cleaning, way_at_first}
+use Rattle.clean_dm.proofs.OneCleaning.{certificate_of, cleaning_is_largest, one_cleaning, way_at_first}
+use Rattle.clean_dm.proofs.KeptLoops.{rows_exist}
 use Rattle.clean_dm.proofs.cleaning.clean.Goals as goal
 
 pub remove_repeated-requires : goal.remove_repeated-requires
@@ -19,3 +20,6 @@ returns-clause-only c = λ other h. one_cleaning c.args.database.now other c.rem
 
 pub returns-clause-largest : goal.returns-clause-largest
 returns-clause-largest c = cleaning_is_largest c.args.database.now c.remove_dangling.new.cleaning.removals (record { chain = c.in_ok-remove_dangling.ensures.way.chain; done = c.in_ok-remove_dangling.ensures.done })
+
+pub returns-clause-exist : goal.returns-clause-exist
+returns-clause-exist c = rows_exist c.args.database.now c.remove_dangling.new.cleaning.removals c.in_ok-all_rows.ensures.fits (certificate_of c.args.database.now c.remove_dangling.new.cleaning.removals (record { chain = c.in_ok-remove_dangling.ensures.way.chain; done = c.in_ok-remove_dangling.ensures.done })).chain
