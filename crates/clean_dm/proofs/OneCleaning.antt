@@ -13,6 +13,7 @@ use Rattle.schema_dm.specs.declared.table.Table.{Table}
 use Rattle.keys_dm.specs.Violations.{place_of}
 use Rattle.keys_dm.specs.declared.violation.ViolationKind.{ViolationKind}
 use Rattle.keys_dm.specs.declared.violation.ViolationKind.TheVariants.{NullKey, RepeatedKey, RepeatedUnique, Dangling}
+use Rattle.keys_dm.proofs.RowKinds.{one_kind}
 use Rattle.clean_dm.specs.Parts.{IsLargestPart, IsRow}
 use Rattle.clean_dm.specs.Removing.{IsCertificate, IsCleaning, IsDue, IsLeft, IsNext, turn_of}
 use Rattle.clean_dm.specs.RowSets.{Has}
@@ -51,24 +52,6 @@ place_length RepeatedKey = refl
 place_length (RepeatedUnique n) = refl
 place_length (Dangling n) = refl
 
-one_kind : (kind other : ViolationKind) → place_of kind ≡ place_of other → kind ≡ other
-one_kind NullKey NullKey e = refl
-one_kind NullKey RepeatedKey e = cc
-one_kind NullKey (RepeatedUnique n) e = cc
-one_kind NullKey (Dangling n) e = cc
-one_kind RepeatedKey NullKey e = cc
-one_kind RepeatedKey RepeatedKey e = refl
-one_kind RepeatedKey (RepeatedUnique n) e = cc
-one_kind RepeatedKey (Dangling n) e = cc
-one_kind (RepeatedUnique m) NullKey e = cc
-one_kind (RepeatedUnique m) RepeatedKey e = cc
-one_kind (RepeatedUnique m) (RepeatedUnique n) e = (let same : m ≡ n = cc in ap (λ k. RepeatedUnique k) same)
-one_kind (RepeatedUnique m) (Dangling n) e = cc
-one_kind (Dangling m) NullKey e = cc
-one_kind (Dangling m) RepeatedKey e = cc
-one_kind (Dangling m) (RepeatedUnique n) e = cc
-one_kind (Dangling m) (Dangling n) e = (let same : m ≡ n = cc in ap (λ k. Dangling k) same)
-
 due_length : (D : Data) (made : List Removal) (place : Place) (removal : Removal) → IsDue D made place removal → length place ≡ 5
 due_length D made place removal due = ap length due.stands ∙ long removal.kind
   where
@@ -83,7 +66,7 @@ one_next D made removal other h k =
     let t : h.due.t ≡ k.due.t = cc in
     let i : h.due.i ≡ k.due.i = cc in
     let rest : place_of removal.kind ≡ place_of other.kind = cc in
-    let kind : removal.kind ≡ other.kind = one_kind removal.kind other.kind rest in
+    let kind : removal.kind ≡ other.kind = one_kind other.kind removal.kind [] (append-nil (place_of other.kind) ∙ sym rest) in
     let table : removal.table ≡ other.table = h.due.of_row.0 ∙ ap (λ n. n + 1) t ∙ sym k.due.of_row.0 in
     let row : removal.row ≡ other.row = h.due.of_row.1 ∙ ap (λ n. n + 1) i ∙ sym k.due.of_row.1 in
     λ z. record { table = table z; row = row z; kind = kind z }

@@ -5,7 +5,7 @@ mod EntryOrder
 pub mod KeyLists
 mod KeyRanges
 pub mod OneMatch
-mod RowKinds
+pub mod RowKinds
 pub mod RowLevels
 mod RowTests
 pub mod SomeListing

@@ -3,7 +3,9 @@ ghost use Rattle.members_dm.specs.Places.{IsListing};
 ghost use Rattle.keys_dm.specs.Adding.{Adds};
 ghost use Rattle.keys_dm.specs.Kept.{HasMatches};
 ghost use Rattle.keys_dm.specs.TableIndexes.{AreIndexesOf};
-ghost use Rattle.keys_dm.specs.Violations.{KeepsKeys, ViolatesAt};
+ghost use Rattle.keys_dm.specs.Violations.{KeepsKeys, Violates, ViolatesAt};
+ghost use Rattle.keys_dm.specs.declared.violation.ViolationKind.{ViolationKind as Kind};
+ghost use Rattle.table_csv.specs.Databases.{rows_at};
 
 use crate::ViolationList;
 use crate::row::{Spot, push_of_row};
@@ -41,6 +43,25 @@ pub fn violations_by(
         push_of_table(database, indexes, table as u32, &mut found)?;
     }
     Ok(found)
+}
+
+/// Whether the row violates a key, where its table and itself are given by their places, counted from 0.
+/// Refused for want of memory alone.
+pub fn is_violated(
+    alloc: Global,
+    database: &Database,
+    indexes: &KeyIndexes,
+    table: u32,
+    row: usize,
+) -> Result<bool, AllocError>
+    requires table { table < length database.now.tables }
+    requires row { row < length (rows_at database.now.rows table) }
+    requires indexed { AreIndexesOf database.now indexes.now }
+    ensures { IfOk result (λ violated. IsTrue violated ↔ ((kind : Kind) × Violates database.now table row kind)) }
+{
+    let mut found = ViolationList::new(alloc);
+    push_of_row(database, indexes, Spot { table, row }, &mut found)?;
+    Ok(found.len() > 0)
 }
 
 fn push_of_table(

@@ -12,7 +12,7 @@ mod twins;
 mod violation;
 
 pub use cells::has_null_at;
-pub use database::{holds_all, violations, violations_by};
+pub use database::{holds_all, is_violated, violations, violations_by};
 pub use index::{Entry, KeyIndex};
 pub use table_indexes::{KeyIndexes, rows_of, table_of};
 pub use violation::{Violation, ViolationKind, ViolationList};
