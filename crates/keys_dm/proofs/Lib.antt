@@ -1,6 +1,6 @@
 pub mod AddingLemmas
 pub mod CellOrder
-mod DatabaseLevels
+pub mod DatabaseLevels
 mod EntryOrder
 pub mod KeyLists
 mod KeyRanges
