@@ -22,8 +22,7 @@ use Rattle.table_csv.proofs.OneFile.{file_one, only_memory}
 use Rattle.table_csv.proofs.OneFault.{one_fault}
 use Rattle.keys_dm.specs.Violations.{ViolatesAt}
 use Rattle.graphs_dm.proofs.GraphLevels.{graph_text_unique}
-use Rattle.graphs_dm.specs.declared.graph_name.GraphName.TheVariants.{Direct}
-use Rattle.cmd_dm.specs.Questions.{Question, AnswerTo, Answers, IsSchemaAnswer, IsRowsAnswer, schema_of, rows_of, violations_of, direct_of}
+use Rattle.cmd_dm.specs.Questions.{Question, AnswerTo, Answers, IsSchemaAnswer, IsRowsAnswer, schema_of, rows_of, violations_of, graph_of}
 use Rattle.cmd_dm.specs.Reasons.{ddl_status, table_status}
 use Rattle.cmd_dm.specs.Script.{Script, Outcome, too_long, load, ask, refuse, write, AfterLoad, Comes}
 use Rattle.cmd_dm.specs.declared.status.File.{File}
@@ -90,7 +89,7 @@ pub answer_unique : (question : Question) (a b : AnswerTo question) → Answers 
 answer_unique (schema_of bytes) a b h k = schema_answer_unique bytes a b h k
 answer_unique (rows_of columns mode number bytes) a b h k = rows_answer_unique columns mode number bytes a b h.0 h.1 k.1
 answer_unique (violations_of D) a b h k = listing_unique (ViolatesAt D) a b h k
-answer_unique (direct_of base D) a b h k = graph_text_unique Direct base D a b h k
+answer_unique (graph_of name base D) a b h k = graph_text_unique name base D a b h k
 
 after_load_unique : (file : File) (content : Option (List ℕ)) (rest : List ℕ → Outcome → Type 0) →
     ((bytes : List ℕ) (o p : Outcome) → rest bytes o → rest bytes p → o ≡ p) →

@@ -1,11 +1,10 @@
 -- What follows of how a run ended for the words as a whole.
 use Rattle.std.proofs.Common.{◌≡◌, ◌∙◌, refl, sym, ap, subst, inl, inr, ◌⊎◌, ℕ, ◌+◌, ◌≤◌, List, [], ◌∷◌, length, Option, Some, None, Result, Ok, Err, true, false, Bool, cond}
-use Rattle.std.specs.Prelude.{IsTrue, IfSome, MatchBool, map}
+use Rattle.std.specs.Prelude.{IsTrue, IfSome, MatchBool}
 use Rattle.std.specs.FinMap.{get}
 use Rattle.std.specs.Io.KnownBytes.{Appends}
 use Rattle.std.proofs.lemmas.Bool.{le-ltb}
-use Rattle.members_dm.specs.Membership.{IsIn}
-use Rattle.members_dm.specs.Places.{IsListing, Place}
+use Rattle.members_dm.specs.Places.{IsListing}
 use Rattle.members_dm.proofs.PlacesLemmas.{listing_unique}
 use Rattle.value_dm.specs.declared.mode.NullMode.{NullMode}
 use Rattle.names_dm.specs.Namespaces.{is_base}
@@ -14,23 +13,26 @@ use Rattle.outside_dm.specs.Shelves.{Files, ShelfState, longest}
 use Rattle.outside_dm.specs.Sinks.{SinkState}
 use Rattle.table_csv.specs.Cells.{Row}
 use Rattle.table_csv.specs.Databases.{Data}
-use Rattle.keys_dm.specs.Violations.{KeepsKeys, ViolatesAt}
+use Rattle.keys_dm.specs.Violations.{ViolatesAt}
 use Rattle.keys_dm.specs.declared.violation.Violation.{Violation}
-use Rattle.graphs_dm.specs.DirectGraph.{IsDirectText}
+use Rattle.keys_dm.proofs.DatabaseLevels.{none_listed}
+use Rattle.graphs_dm.specs.Graphs.{IsGraphText}
+use Rattle.graphs_dm.specs.declared.graph_name.GraphName.{GraphName}
+use Rattle.graphs_dm.specs.declared.graph_name.GraphName.TheVariants as graph
 use Rattle.cmd_dm.specs.Check.{check_script, check_text}
-use Rattle.cmd_dm.specs.Direct.{direct_script}
+use Rattle.cmd_dm.specs.GraphScript.{graph_script}
 use Rattle.cmd_dm.specs.Ending.{Ends, NoFault, Target, to_output}
 use Rattle.cmd_dm.specs.Folder.{schema_file, table_file}
-use Rattle.cmd_dm.specs.Headline.{HoldsTables, HoldsDatabase, EndsSo, WritesText, MapsDirectly, Checks, Promises}
+use Rattle.cmd_dm.specs.Headline.{HoldsTables, HoldsDatabase, EndsSo, WritesText, WritesKept, WritesFolder, Checks, Promises}
 use Rattle.cmd_dm.specs.Plans.{IsOutcome, NamesFile, folder_file, plan_of}
-use Rattle.cmd_dm.specs.Questions.{violations_of, direct_of}
+use Rattle.cmd_dm.specs.Questions.{violations_of, graph_of}
 use Rattle.cmd_dm.specs.Reasons.{bad_base, key_reason}
 use Rattle.cmd_dm.specs.Script.{Script, Work, Outcome, usage, refused, done, text_work, too_long, status_of, Comes, AfterLoad, MayLoad, ask, write, refuse}
-use Rattle.cmd_dm.specs.Steps.{base_step, schema_step, rows_step, tables_step, database_step, keys_step, on_answer, on_violations}
+use Rattle.cmd_dm.specs.Steps.{base_step, schema_step, rows_step, tables_step, database_step, kept_step, keys_step, on_answer, on_violations}
 use Rattle.cmd_dm.proofs.Endings.{ends_exact, status_comes}
 use Rattle.cmd_dm.proofs.Outcomes.{outcome_unique, schema_answer_unique, rows_answer_unique}
 use Rattle.cmd_dm.specs.declared.command.Command.{Command}
-use Rattle.cmd_dm.specs.declared.command.Command.TheVariants.{Direct, Check}
+use Rattle.cmd_dm.specs.declared.command.Command.TheVariants.{Direct, Map, MapKeys, Check}
 use Rattle.cmd_dm.specs.declared.status.File.{File}
 use Rattle.cmd_dm.specs.declared.status.File.TheVariants.{Schema, Table as TableFile, Query, Graph, Pattern, More}
 use Rattle.cmd_dm.specs.declared.status.Reason.{Reason}
@@ -104,28 +106,42 @@ folder_names folder mode next Graph name none h = tt
 folder_names folder mode next Pattern name none h = tt
 folder_names folder mode next (More number) name none h = tt
 
--- what `direct` does behind the database
-abbrev graph_script : List ℕ → Data → Script
-graph_script base D = ask (direct_of base D) (λ text. write (text_work text))
+-- what is done behind the keys
+abbrev put_script : GraphName → List ℕ → Data → Script
+put_script name base D = ask (graph_of name base D) (λ text. write (text_work text))
 
-keys_load_nothing : (D : Data) (base : List ℕ) (file : File) (name : List ℕ) → ¬ MayLoad (keys_step D (λ _. graph_script base D)) file name
+keys_load_nothing : (D : Data) (next : Unit {0} → Script) (file : File) (name : List ℕ) → ¬ MayLoad (next tt) file name → ¬ MayLoad (keys_step D next) file name
 unfolding keys_step
-keys_load_nothing D base file name h = by_found h.0 h.1.1
+keys_load_nothing D next file name none h = by_found h.0 h.1.1
   where
-    by_found : (found : List Violation) → ¬ MayLoad (on_violations found (λ _. graph_script base D)) file name
-    by_found [] h = h.1.1
+    by_found : (found : List Violation) → ¬ MayLoad (on_violations found next) file name
+    by_found [] h = none h
     by_found (violation ∷ others) h = h
 
-abbrev mapped : List ℕ → Data → Script
-mapped base D = keys_step D (λ _. graph_script base D)
+kept_loads_nothing : (graph_name : GraphName) (D : Data) (next : Unit {0} → Script) (file : File) (name : List ℕ) → ¬ MayLoad (next tt) file name → ¬ MayLoad (kept_step graph_name D next) file name
+unfolding kept_step
+kept_loads_nothing graph.Direct D next file name none h = keys_load_nothing D next file name none h
+kept_loads_nothing graph.Map D next file name none h = keys_load_nothing D next file name none h
+kept_loads_nothing graph.MapKeys D next file name none h = none h
+
+-- what is done behind the database
+abbrev mapped : GraphName → List ℕ → Data → Script
+mapped name base D = kept_step name D (λ _. put_script name base D)
 
 abbrev checked : Data → Script
 checked D = ask (violations_of D) (λ found. write (text_work (check_text D.tables found)))
 
-command_names : (command : Command) (file : File) (name : List ℕ) → MayLoad (plan_of command).script file name → NamesFile command file name
+graph_names : (graph_name : GraphName) (base folder : List ℕ) (nulls : NullMode) (file : File) (name : List ℕ) → MayLoad (graph_script graph_name base folder nulls) file name →
+    IfSome (folder_file folder file) (λ named. name ≡ named)
 unfolding base_step
-command_names (Direct base folder nulls) file name h =
-    folder_names folder nulls (mapped base) file name (λ D file. keys_load_nothing D base file name) (base_may_load (is_base base) (database_step folder nulls (mapped base)) file name h)
+graph_names graph_name base folder nulls file name h =
+    folder_names folder nulls (mapped graph_name base) file name (λ D file. kept_loads_nothing graph_name D (λ _. put_script graph_name base D) file name (λ h. h.1.1))
+    (base_may_load (is_base base) (database_step folder nulls (mapped graph_name base)) file name h)
+
+command_names : (command : Command) (file : File) (name : List ℕ) → MayLoad (plan_of command).script file name → NamesFile command file name
+command_names (Direct base folder nulls) file name h = graph_names graph.Direct base folder nulls file name h
+command_names (Map base folder nulls) file name h = graph_names graph.Map base folder nulls file name h
+command_names (MapKeys base folder nulls) file name h = graph_names graph.MapKeys base folder nulls file name h
 command_names (Check folder nulls) file name h = folder_names folder nulls checked file name (λ D file h. h.1.1) h
 
 -- the file at which the shelf failed is the one that was told
@@ -200,40 +216,41 @@ writes_text IsText script {s = s} {t = t} {o = o} {p = p} status files ends told
     done_one : (v w : Work) → ◌≡◌ {A = Outcome} (done v) (done w) → v ≡ w
     done_one v w e = cc
 
--- where no key is violated no violation is listed
-none_listed : (D : Data) → KeepsKeys D → (found : List Violation) → IsListing (ViolatesAt D) found → found ≡ []
-none_listed D kept found listed = listed.items ∙ none_placed listed.placed (λ p x. (listed.exact p x).0)
-  where
-    none_placed : (placed : List (Place × Violation)) → ((p : Place) (x : Violation) → IsIn {X = Place × Violation} (p, x) placed → ViolatesAt D p x) → map (λ (a : Place × Violation). a.1) placed ≡ []
-    none_placed [] violates = refl
-    none_placed (entry ∷ placed) violates =
-        let first = violates entry.0 entry.1 (inl refl) in
-        absurd (kept first.t first.i entry.1.kind first.in_table first.in_row first.violates.broken)
+-- from well-formed files a command comes to what it does behind the database
+behind_database : (name : GraphName) (base folder : List ℕ) (nulls : NullMode) (files : Files) (D : Data) → IsTrue (is_base base) → HoldsDatabase files folder nulls D → (outcome : Outcome) →
+    Comes files (graph_script name base folder nulls) outcome → Comes files (mapped name base D) outcome
+unfolding base_step
+behind_database name base folder nulls files D good held outcome h =
+    let loads : Comes files (database_step folder nulls (mapped name base)) outcome =
+    subst (λ (b : Bool). Comes files (cond b (database_step folder nulls (mapped name base)) (refuse bad_base)) outcome) good h in
+    database_comes files folder nulls D (mapped name base) outcome held loads
 
-module _ (base folder : List ℕ) (nulls : NullMode) (files : Files) (D : Data) (good : IsTrue (is_base base)) (held : HoldsDatabase files folder nulls D) where
-  -- from well-formed files `direct` comes to what it does behind the list of violations
-  behind_keys : (outcome : Outcome) → Comes files (direct_script base folder nulls) outcome
-      → (found : List Violation) × (IsListing (ViolatesAt D) found × Comes files (on_violations found (λ _. graph_script base D)) outcome)
-  unfolding base_step keys_step
-  behind_keys outcome h =
-      let loads : Comes files (database_step folder nulls (mapped base)) outcome =
-      subst (λ (b : Bool). Comes files (cond b (database_step folder nulls (mapped base)) (refuse bad_base)) outcome) good h in
-      database_comes files folder nulls D (mapped base) outcome held loads
+module _ (name : GraphName) (base folder : List ℕ) (nulls : NullMode) (files : Files) (D : Data)
+    (behind_keys : (outcome : Outcome) → Comes files (graph_script name base folder nulls) outcome → Comes files (keys_step D (λ _. put_script name base D)) outcome) where
+  -- where the keys are looked at, a command comes to what it does behind the list of violations
+  behind_found : (found : List Violation) → ((asked : List Violation) → IsListing (ViolatesAt D) asked → asked ≡ found) → (outcome : Outcome) → Comes files (graph_script name base folder nulls) outcome →
+      Comes files (on_violations found (λ _. put_script name base D)) outcome
+  unfolding keys_step
+  behind_found found one outcome h =
+      let asked : (v : List Violation) × (IsListing (ViolatesAt D) v × Comes files (on_violations v (λ _. put_script name base D)) outcome) = behind_keys outcome h in
+      subst (λ (v : List Violation). Comes files (on_violations v (λ _. put_script name base D)) outcome) (one asked.0 asked.1.0) asked.1.1
 
-  -- and so behind a list of violations that is known
-  behind_found : (found : List Violation) (outcome : Outcome) (asked : (found : List Violation) × (IsListing (ViolatesAt D) found × Comes files (on_violations found (λ _. graph_script base D)) outcome)) →
-      asked.0 ≡ found → Comes files (on_violations found (λ _. graph_script base D)) outcome
-  behind_found found outcome asked is = subst (λ (v : List Violation). Comes files (on_violations v (λ _. graph_script base D)) outcome) is asked.1.1
-
-  maps_directly : {s t : ShelfState} {o p : SinkState} (status : Status) → Ends to_output (direct_script base folder nulls) s t o p status → s.files ≡ Some files → MapsDirectly base D s t o p status
-  maps_directly status ends told = record {
-    kept = λ kept. writes_text (IsDirectText base D) (direct_script base folder nulls) status files ends told (λ outcome h.
-        let asked = behind_keys outcome h in
-        behind_found [] outcome asked (none_listed D kept asked.0 asked.1.0));
-    violated = λ first others listed. ends_so files (refused (key_reason first)) ends told (λ outcome h.
-        let asked = behind_keys outcome h in
-        behind_found (first ∷ others) outcome asked (listing_unique (ViolatesAt D) asked.0 (first ∷ others) asked.1.0 listed));
+  writes_kept : {s t : ShelfState} {o p : SinkState} (status : Status) → Ends to_output (graph_script name base folder nulls) s t o p status → s.files ≡ Some files → WritesKept name base D s t o p status
+  writes_kept status ends told = record {
+    kept = λ kept. writes_text (IsGraphText name base D) (graph_script name base folder nulls) status files ends told (behind_found [] (λ asked listed. (none_listed D asked listed).1 kept));
+    violated = λ first others listed. ends_so files (refused (key_reason first)) ends told
+        (behind_found (first ∷ others) (λ asked also. listing_unique (ViolatesAt D) asked (first ∷ others) also listed));
   }
+
+writes_graph : (name : GraphName) (base folder : List ℕ) (nulls : NullMode) {s t : ShelfState} {o p : SinkState} (status : Status) → Ends to_output (graph_script name base folder nulls) s t o p status →
+    WritesFolder name base folder nulls s t o p status
+unfolding kept_step
+writes_graph graph.Direct base folder nulls status ends = λ files D told good held.
+    writes_kept graph.Direct base folder nulls files D (behind_database graph.Direct base folder nulls files D good held) status ends told
+writes_graph graph.Map base folder nulls status ends = λ files D told good held.
+    writes_kept graph.Map base folder nulls files D (behind_database graph.Map base folder nulls files D good held) status ends told
+writes_graph graph.MapKeys base folder nulls status ends = λ files D told good held.
+    writes_text (IsGraphText graph.MapKeys base D) (graph_script graph.MapKeys base folder nulls) status files ends told (behind_database graph.MapKeys base folder nulls files D good held)
 
 checks : (folder : List ℕ) (nulls : NullMode) (files : Files) (D : Data) {s t : ShelfState} {o p : SinkState} (status : Status) →
     Ends to_output (check_script folder nulls) s t o p status → s.files ≡ Some files → HoldsDatabase files folder nulls D → Checks D s t o p status
@@ -244,5 +261,7 @@ checks folder nulls files D status ends told held =
 
 -- each command keeps its promise
 pub promised : (command : Command) {s t : ShelfState} {o p : SinkState} (status : Status) → Ends (plan_of command).target (plan_of command).script s t o p status → Promises command s t o p status
-promised (Direct base folder nulls) status ends = λ files D told good held. maps_directly base folder nulls files D good held status ends told
+promised (Direct base folder nulls) status ends = writes_graph graph.Direct base folder nulls status ends
+promised (Map base folder nulls) status ends = writes_graph graph.Map base folder nulls status ends
+promised (MapKeys base folder nulls) status ends = writes_graph graph.MapKeys base folder nulls status ends
 promised (Check folder nulls) status ends = λ files D told held. checks folder nulls files D status ends told held

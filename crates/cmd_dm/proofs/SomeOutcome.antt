@@ -1,8 +1,10 @@
 -- Something comes of each command, over all files.
 use Rattle.std.proofs.Common.{◌≡◌, ℕ, ◌+◌, List, [], ◌∷◌, length, Option, Some, None, Result, Ok, Err, refl, true, false, Bool, nat_lt, subst, sym, cond, inl, inr}
 use Rattle.std.specs.Prelude.{MatchBool}
+use Rattle.std.specs.List.{AllZip}
 use Rattle.std.specs.FinMap.{get}
 use Rattle.members_dm.specs.Membership.{IsIn, NoRepeats}
+use Rattle.members_dm.specs.Places.{IsListing}
 use Rattle.value_dm.specs.declared.mode.NullMode.{NullMode}
 use Rattle.names_dm.specs.Namespaces.{is_base}
 use Rattle.outside_dm.specs.Shelves.{Files, longest}
@@ -17,25 +19,32 @@ use Rattle.ddl_dm.specs.declared.ddl.DdlError.{DdlError}
 use Rattle.ddl_dm.specs.declared.ddl.DdlError.TheVariants as ddl
 use Rattle.ddl_dm.proofs.OneAnswer.{IsRightSchema, IsSchemaAnswered}
 use Rattle.ddl_dm.proofs.SomeAnswer.{schema_some}
-use Rattle.table_csv.specs.Cells.{Row}
-use Rattle.table_csv.specs.Databases.{Data}
+use Rattle.table_csv.specs.Cells.{AreRowsOf, Row}
+use Rattle.table_csv.specs.Databases.{Data, IsDatabase}
 use Rattle.table_csv.specs.TableFiles.{IsFirstFault, records_of}
 use Rattle.table_csv.specs.declared.fault.TableError.{TableError}
 use Rattle.table_csv.specs.declared.fault.TableError.TheVariants as table
+use Rattle.table_csv.proofs.FittingRows.{read_rows_fit}
 use Rattle.table_csv.proofs.HeaderLemmas.{fields_differ}
 use Rattle.table_csv.proofs.SomeAnswer.{file_some}
 use Rattle.keys_dm.specs.declared.violation.Violation.{Violation}
+use Rattle.keys_dm.proofs.DatabaseLevels.{none_listed}
 use Rattle.keys_dm.proofs.SomeListing.{violations_some}
-use Rattle.graphs_dm.proofs.GraphLevels.{some_direct_text}
+use Rattle.keys_dm.specs.Violations.{KeepsKeys, ViolatesAt}
+use Rattle.graphs_dm.specs.Graphs.{IsDefined}
+use Rattle.graphs_dm.specs.declared.graph_name.GraphName.{GraphName}
+use Rattle.graphs_dm.specs.declared.graph_name.GraphName.TheVariants as graph
+use Rattle.graphs_dm.proofs.GraphLevels.{some_text}
 use Rattle.cmd_dm.specs.Folder.{schema_file, table_file}
+use Rattle.cmd_dm.specs.GraphScript.{graph_script}
 use Rattle.cmd_dm.specs.Plans.{IsOutcome}
-use Rattle.cmd_dm.specs.Questions.{IsSchemaAnswer, IsRowsAnswer, direct_of, violations_of}
+use Rattle.cmd_dm.specs.Questions.{IsSchemaAnswer, IsRowsAnswer, graph_of, violations_of}
 use Rattle.cmd_dm.specs.Reasons.{bad_base, cause_code, key_reason, reason}
 use Rattle.cmd_dm.specs.Script.{Script, Outcome, usage, refused, absent, too_long, done, text_work, AfterLoad, Comes, ask, refuse, write}
-use Rattle.cmd_dm.specs.Steps.{base_step, database_step, keys_step, on_answer, on_violations, rows_step, schema_step, tables_step}
+use Rattle.cmd_dm.specs.Steps.{base_step, database_step, kept_step, keys_step, on_answer, on_violations, rows_step, schema_step, tables_step}
 use Rattle.cmd_dm.specs.Check.{check_text}
 use Rattle.cmd_dm.specs.declared.command.Command.{Command}
-use Rattle.cmd_dm.specs.declared.command.Command.TheVariants.{Direct, Check}
+use Rattle.cmd_dm.specs.declared.command.Command.TheVariants.{Direct, Map, MapKeys, Check}
 use Rattle.cmd_dm.specs.declared.status.File.{File}
 use Rattle.cmd_dm.specs.declared.status.File.TheVariants.{Schema, Table as TableFile}
 use Rattle.cmd_dm.specs.declared.status.Reason.{Reason}
@@ -89,28 +98,32 @@ some_loaded file (Some bytes) rest some none =
       | false ↦ λ none. some bytes none
     ] none
 
+-- each table has rows that its columns allow
+abbrev Fit : List Table → List (List Row) → Type 0
+Fit tables rows = AllZip (λ table rows. AreRowsOf table.columns rows) tables rows
+
 tables_some : (files : Files) (folder : List ℕ) (mode : NullMode) (before : ℕ) (tables : List Table) (next : List (List Row) → Script) → ((t : Table) → IsIn t tables → NoRepeats (column_names t.columns))
-    → ((rows : List (List Row)) → SomeComes files (next rows)) → SomeComes files (tables_step folder mode before tables next)
+    → ((rows : List (List Row)) → Fit tables rows → SomeComes files (next rows)) → SomeComes files (tables_step folder mode before tables next)
 unfolding tables_step rows_step
-tables_some files folder mode before [] next distinct some none = some [] none
+tables_some files folder mode before [] next distinct some none = some [] tt none
 tables_some files folder mode before (t ∷ tables) next distinct some none =
+    let differ : NoRepeats (column_names t.columns) = distinct t (inl refl) in
     let step : List Row → Script = λ rows. tables_step folder mode (before + 1) tables (λ others. next (rows ∷ others)) in
-    let further : (rows : List Row) → SomeComes files (step rows) =
-    λ rows. tables_some files folder mode (before + 1) tables (λ others. next (rows ∷ others)) (λ u m. distinct u (inr m)) (λ others. some (rows ∷ others)) in
+    let further : (rows : List Row) → AreRowsOf t.columns rows → SomeComes files (step rows) =
+    λ rows fit. tables_some files folder mode (before + 1) tables (λ others. next (rows ∷ others)) (λ u m. distinct u (inr m)) (λ others fits. some (rows ∷ others) (fit, fits)) in
     some_loaded (TableFile (before + 1)) (get files (table_file folder t.name)) (λ bytes o. Comes files (rows_step t.columns mode (before + 1) bytes step) o)
-    (λ bytes none. rows_answer_some t.columns mode (before + 1) bytes (distinct t (inl refl)) (λ answer right. on_rows step further answer (λ o comes. none o (answer, ((distinct t (inl refl), right), comes))))) none
+    (λ bytes none. rows_answer_some t.columns mode (before + 1) bytes differ (λ answer right. on_rows bytes differ step further answer right (λ o comes. none o (answer, ((differ, right), comes))))) none
   where
-    on_rows : (step : List Row → Script) → ((rows : List Row) → SomeComes files (step rows)) → (answer : Result (List Row) Reason) → SomeComes files (on_answer answer step)
-    on_rows step further (Ok rows) none = further rows none
-    on_rows step further (Err why) none = none (refused why) refl
+    on_rows : (bytes : List ℕ) → NoRepeats (column_names t.columns) → (step : List Row → Script) → ((rows : List Row) → AreRowsOf t.columns rows → SomeComes files (step rows))
+        → (answer : Result (List Row) Reason) → IsRowsAnswer t.columns mode (before + 1) bytes answer → SomeComes files (on_answer answer step)
+    on_rows bytes differ step further (Ok rows) right none = further rows (read_rows_fit t.columns mode (records_of bytes) rows (fields_differ t.columns differ) right) none
+    on_rows bytes differ step further (Err why) right none = none (refused why) refl
 
--- the columns of a table that is declared have different names
-names_differ : (bytes : List ℕ) (tables : List Table) → IsDdl bytes tables → (t : Table) → IsIn t tables → NoRepeats (column_names t.columns)
-names_differ bytes tables h t m =
-    let schema : IsSchema tables = subst IsSchema (sym h.2.2) (lawful_schema (drafts_of h.0) h.2.1) in
-    (schema.each t m).distinct
+-- tables that are declared are a schema
+declared_schema : (bytes : List ℕ) (tables : List Table) → IsDdl bytes tables → IsSchema tables
+declared_schema bytes tables h = subst IsSchema (sym h.2.2) (lawful_schema (drafts_of h.0) h.2.1)
 
-database_some : (files : Files) (folder : List ℕ) (mode : NullMode) (next : Data → Script) → ((D : Data) → SomeComes files (next D)) → SomeComes files (database_step folder mode next)
+database_some : (files : Files) (folder : List ℕ) (mode : NullMode) (next : Data → Script) → ((D : Data) → IsDatabase D → SomeComes files (next D)) → SomeComes files (database_step folder mode next)
 unfolding database_step schema_step
 database_some files folder mode next some none =
     let step : List Table → Script = λ tables. tables_step folder mode 0 tables (λ rows. next (record { tables = tables; rows = rows })) in
@@ -120,23 +133,27 @@ database_some files folder mode next some none =
     on_tables : (bytes : List ℕ) (answer : Result (List Table) Reason) → IsSchemaAnswer bytes answer
         → SomeComes files (on_answer answer (λ tables. tables_step folder mode 0 tables (λ rows. next (record { tables = tables; rows = rows }))))
     on_tables bytes (Ok tables) right none =
-        tables_some files folder mode 0 tables (λ rows. next (record { tables = tables; rows = rows })) (names_differ bytes tables right) (λ rows. some (record { tables = tables; rows = rows })) none
+        let schema = declared_schema bytes tables right in
+        tables_some files folder mode 0 tables (λ rows. next (record { tables = tables; rows = rows })) (λ t m. (schema.each t m).distinct)
+        (λ rows fit. some (record { tables = tables; rows = rows }) (record { schema = schema; rows = fit })) none
     on_tables bytes (Err why) right none = none (refused why) refl
 
 -- ---- commands
 
-graph_some : (files : Files) (base : List ℕ) (D : Data) → SomeComes files (ask (direct_of base D) (λ text. write (text_work text)))
-graph_some files base D none =
-    let text = some_direct_text base D in
-    none (done (text_work text.0)) (text.0, (text.1, refl))
-
-keys_some : (files : Files) (D : Data) (next : Unit {0} → Script) → SomeComes files (next tt) → SomeComes files (keys_step D next)
+keys_some : (files : Files) (D : Data) (next : Unit {0} → Script) → (KeepsKeys D → SomeComes files (next tt)) → SomeComes files (keys_step D next)
 unfolding keys_step
-keys_some files D next some none = violations_some D (λ found listed. on_found found (λ o comes. none o (found, (listed, comes))))
+keys_some files D next some none = violations_some D (λ found listed. on_found found listed (λ o comes. none o (found, (listed, comes))))
   where
-    on_found : (found : List Violation) → SomeComes files (on_violations found next)
-    on_found [] none = some none
-    on_found (violation ∷ others) none = none (refused (key_reason violation)) refl
+    on_found : (found : List Violation) → IsListing (ViolatesAt D) found → SomeComes files (on_violations found next)
+    on_found [] listed none = some ((none_listed D [] listed).0 refl) none
+    on_found (violation ∷ others) listed none = none (refused (key_reason violation)) refl
+
+-- behind this step the graph is defined
+kept_some : (files : Files) (name : GraphName) (D : Data) (next : Unit {0} → Script) → (IsDefined name D → SomeComes files (next tt)) → SomeComes files (kept_step name D next)
+unfolding kept_step
+kept_some files graph.Direct D next some none = keys_some files D next (λ kept. some tt) none
+kept_some files graph.Map D next some none = keys_some files D next some none
+kept_some files graph.MapKeys D next some none = some tt none
 
 base_some : (files : Files) (word : List ℕ) (next : List ℕ → Script) → SomeComes files (next word) → SomeComes files (base_step word next)
 unfolding base_step
@@ -146,13 +163,21 @@ base_some files word next some = by_base (is_base word)
     by_base true none = some none
     by_base false none = none (refused bad_base) refl
 
+graph_some : (files : Files) (name : GraphName) (base folder : List ℕ) (nulls : NullMode) → SomeComes files (graph_script name base folder nulls)
+graph_some files name base folder nulls =
+    let put : List ℕ → Data → Script = λ base D. ask (graph_of name base D) (λ text. write (text_work text)) in
+    let last : List ℕ → Data → Script = λ base D. kept_step name D (λ _. put base D) in
+    base_some files base (λ base. database_step folder nulls (last base)) (database_some files folder nulls (last base) (λ D database.
+    kept_some files name D (λ _. put base D) (λ defined none.
+    let text = some_text name base D database defined in
+    none (done (text_work text.0)) (text.0, (text.1, refl)))))
+
 -- something comes of words
 pub words_some : (files : Files) (command : Option Command) → ¬ ((outcome : Outcome) → ¬ IsOutcome files command outcome)
 words_some files None none = none usage refl
-words_some files (Some (Direct base folder nulls)) none =
-    base_some files base (λ base. database_step folder nulls (λ D. keys_step D (λ _. ask (direct_of base D) (λ text. write (text_work text)))))
-    (database_some files folder nulls (λ D. keys_step D (λ _. ask (direct_of base D) (λ text. write (text_work text))))
-    (λ D. keys_some files D (λ _. ask (direct_of base D) (λ text. write (text_work text))) (graph_some files base D))) none
+words_some files (Some (Direct base folder nulls)) none = graph_some files graph.Direct base folder nulls none
+words_some files (Some (Map base folder nulls)) none = graph_some files graph.Map base folder nulls none
+words_some files (Some (MapKeys base folder nulls)) none = graph_some files graph.MapKeys base folder nulls none
 words_some files (Some (Check folder nulls)) none =
     database_some files folder nulls (λ D. ask (violations_of D) (λ found. write (text_work (check_text D.tables found))))
-    (λ D none. violations_some D (λ found listed. none (done (text_work (check_text D.tables found))) (found, (listed, refl)))) none
+    (λ D database none. violations_some D (λ found listed. none (done (text_work (check_text D.tables found))) (found, (listed, refl)))) none

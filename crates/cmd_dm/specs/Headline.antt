@@ -14,13 +14,15 @@ use Rattle.table_csv.specs.Databases.{Data}
 use Rattle.table_csv.specs.TableFiles.{IsTableFile}
 use Rattle.keys_dm.specs.Violations.{KeepsKeys, ViolatesAt}
 use Rattle.keys_dm.specs.declared.violation.Violation.{Violation}
-use Rattle.graphs_dm.specs.DirectGraph.{IsDirectText}
+use Rattle.graphs_dm.specs.Graphs.{IsGraphText}
+use Rattle.graphs_dm.specs.declared.graph_name.GraphName.{GraphName}
+use Rattle.graphs_dm.specs.declared.graph_name.GraphName.TheVariants as graph
 use Rattle.cmd_dm.specs.Check.{check_text}
 use Rattle.cmd_dm.specs.Ending.{NoFault}
 use Rattle.cmd_dm.specs.Folder.{schema_file, table_file}
 use Rattle.cmd_dm.specs.Reasons.{key_reason}
 use Rattle.cmd_dm.specs.declared.command.Command.{Command}
-use Rattle.cmd_dm.specs.declared.command.Command.TheVariants.{Direct, Check}
+use Rattle.cmd_dm.specs.declared.command.Command.TheVariants.{Direct, Map, MapKeys, Check}
 use Rattle.cmd_dm.specs.declared.status.Status.{Status}
 use Rattle.cmd_dm.specs.declared.status.Status.TheVariants.{Ok as Done, Refused, Memory}
 
@@ -57,11 +59,22 @@ pub record WritesText (IsText : List ℕ → Type 0) (old new : ShelfState) (bef
   pub no_fault : EndsSo Done old new before after status
   pub written : status ≡ Done → (text : List ℕ) × (IsText text × Appends before.held after.held text)
 
--- `direct`: where no key is violated the text of the direct graph is written; else without a fault the run is refused for the
--- violation that stands first
-pub record MapsDirectly (base : List ℕ) (D : Data) (old new : ShelfState) (before after : SinkState) (status : Status) : Type 0 where
-  pub kept : KeepsKeys D → WritesText (IsDirectText base D) old new before after status
+-- where no key is violated the text of the graph is written; else without a fault the run is refused for the violation that
+-- stands first
+pub record WritesKept (name : GraphName) (base : List ℕ) (D : Data) (old new : ShelfState) (before after : SinkState) (status : Status) : Type 0 where
+  pub kept : KeepsKeys D → WritesText (IsGraphText name base D) old new before after status
   pub violated : (first : Violation) (others : List Violation) → IsListing (ViolatesAt D) (first ∷ others) → EndsSo (Refused (key_reason first)) old new before after status
+
+-- `direct` and `map` write their graphs where no key is violated, and `map-keys` its graph of every database
+abbrev pub WritesGraph : GraphName → List ℕ → Data → ShelfState → ShelfState → SinkState → SinkState → Status → Type 0
+WritesGraph graph.Direct base D old new before after status = WritesKept graph.Direct base D old new before after status
+WritesGraph graph.Map base D old new before after status = WritesKept graph.Map base D old new before after status
+WritesGraph graph.MapKeys base D old new before after status = WritesText (IsGraphText graph.MapKeys base D) old new before after status
+
+-- and that where the shelf tells files that are well-formed, and the base is one that IRIs can begin with
+abbrev pub WritesFolder : GraphName → List ℕ → List ℕ → NullMode → ShelfState → ShelfState → SinkState → SinkState → Status → Type 0
+WritesFolder name base folder nulls old new before after status =
+    (files : Files) (D : Data) → old.files ≡ Some files → IsTrue (is_base base) → HoldsDatabase files folder nulls D → WritesGraph name base D old new before after status
 
 -- `check`: the lines of the violations, which are all in order, and of their count are written
 abbrev pub Checks : Data → ShelfState → ShelfState → SinkState → SinkState → Status → Type 0
@@ -70,7 +83,8 @@ Checks D old new before after status =
 
 -- what each command promises where the shelf tells its files and they are well-formed
 abbrev pub Promises : Command → ShelfState → ShelfState → SinkState → SinkState → Status → Type 0
-Promises (Direct base folder nulls) old new before after status =
-    (files : Files) (D : Data) → old.files ≡ Some files → IsTrue (is_base base) → HoldsDatabase files folder nulls D → MapsDirectly base D old new before after status
+Promises (Direct base folder nulls) old new before after status = WritesFolder graph.Direct base folder nulls old new before after status
+Promises (Map base folder nulls) old new before after status = WritesFolder graph.Map base folder nulls old new before after status
+Promises (MapKeys base folder nulls) old new before after status = WritesFolder graph.MapKeys base folder nulls old new before after status
 Promises (Check folder nulls) old new before after status =
     (files : Files) (D : Data) → old.files ≡ Some files → HoldsDatabase files folder nulls D → Checks D old new before after status

@@ -8,7 +8,7 @@ pub mod Script
 pub mod Ending
 pub mod Steps
 pub mod Folder
-pub mod Direct
+pub mod GraphScript
 pub mod Check
 pub mod Plans
 pub mod Headline

@@ -1,22 +1,25 @@
 -- The commands: each as a script, with the devices that it writes to.
 use Rattle.std.specs.Prelude.{◌≡◌, ℕ, List, Option, Some, None, IfSome}
 use Rattle.outside_dm.specs.Shelves.{Files}
+use Rattle.graphs_dm.specs.declared.graph_name.GraphName.TheVariants as graph
 use Rattle.cmd_dm.specs.Check.{check_script}
-use Rattle.cmd_dm.specs.Direct.{direct_script}
+use Rattle.cmd_dm.specs.GraphScript.{graph_script}
 use Rattle.cmd_dm.specs.Folder.{schema_file}
 use Rattle.cmd_dm.specs.Ending.{Target, to_output}
 use Rattle.cmd_dm.specs.Script.{Script, Outcome, usage, Comes}
 use Rattle.cmd_dm.specs.declared.status.File.{File}
 use Rattle.cmd_dm.specs.declared.status.File.TheVariants.{Schema}
 use Rattle.cmd_dm.specs.declared.command.Command.{Command}
-use Rattle.cmd_dm.specs.declared.command.Command.TheVariants.{Direct, Check}
+use Rattle.cmd_dm.specs.declared.command.Command.TheVariants.{Direct, Map, MapKeys, Check}
 
 pub record Plan : Type 0 where
   pub target : Target
   pub script : Script
 
 abbrev pub plan_of : Command → Plan
-plan_of (Direct base folder nulls) = record { target = to_output; script = direct_script base folder nulls }
+plan_of (Direct base folder nulls) = record { target = to_output; script = graph_script graph.Direct base folder nulls }
+plan_of (Map base folder nulls) = record { target = to_output; script = graph_script graph.Map base folder nulls }
+plan_of (MapKeys base folder nulls) = record { target = to_output; script = graph_script graph.MapKeys base folder nulls }
 plan_of (Check folder nulls) = record { target = to_output; script = check_script folder nulls }
 
 -- the schema's file, where it is the file
@@ -27,6 +30,8 @@ folder_file folder _ = None
 -- the names of the files that the words alone name
 abbrev pub file_of : Command → File → Option (List ℕ)
 file_of (Direct base folder nulls) file = folder_file folder file
+file_of (Map base folder nulls) file = folder_file folder file
+file_of (MapKeys base folder nulls) file = folder_file folder file
 file_of (Check folder nulls) file = folder_file folder file
 
 -- this is the name of the file, where the words alone name it

@@ -15,7 +15,8 @@ use Rattle.table_csv.specs.TableFiles.{IsFirstFault, IsTableFile, records_of}
 use Rattle.table_csv.specs.declared.fault.TableError.{TableError}
 use Rattle.keys_dm.specs.Violations.{ViolatesAt}
 use Rattle.keys_dm.specs.declared.violation.Violation.{Violation}
-use Rattle.graphs_dm.specs.DirectGraph.{IsDirectText}
+use Rattle.graphs_dm.specs.Graphs.{IsGraphText}
+use Rattle.graphs_dm.specs.declared.graph_name.GraphName.{GraphName}
 use Rattle.cmd_dm.specs.Reasons.{ddl_status, table_status}
 use Rattle.cmd_dm.specs.declared.status.Reason.{Reason}
 use Rattle.cmd_dm.specs.declared.status.Status.TheVariants.{Refused}
@@ -27,15 +28,15 @@ pub data Question : Type 0 where
   rows_of : List Column → NullMode → ℕ → List ℕ → Question
   -- all violated keys, in order
   violations_of : Data → Question
-  -- the text of the direct graph
-  direct_of : List ℕ → Data → Question
+  -- the text of the graph of this name
+  graph_of : GraphName → List ℕ → Data → Question
 
 -- what an answer to the question is: a value, or why the bytes are refused
 abbrev pub AnswerTo : Question → Type 0
 AnswerTo (schema_of bytes) = Result (List Table) Reason
 AnswerTo (rows_of columns mode number bytes) = Result (List Row) Reason
 AnswerTo (violations_of D) = List Violation
-AnswerTo (direct_of base D) = List ℕ
+AnswerTo (graph_of name base D) = List ℕ
 
 abbrev pub IsSchemaAnswer : List ℕ → Result (List Table) Reason → Type 0
 IsSchemaAnswer bytes (Ok tables) = IsDdl bytes tables
@@ -51,4 +52,4 @@ abbrev pub Answers : (question : Question) → AnswerTo question → Type 0
 Answers (schema_of bytes) answer = IsSchemaAnswer bytes answer
 Answers (rows_of columns mode number bytes) answer = NoRepeats (column_names columns) × IsRowsAnswer columns mode number bytes answer
 Answers (violations_of D) found = IsListing (ViolatesAt D) found
-Answers (direct_of base D) text = IsDirectText base D text
+Answers (graph_of name base D) text = IsGraphText name base D text

@@ -7,6 +7,8 @@ use Rattle.schema_dm.specs.declared.table.Table.{Table}
 use Rattle.table_csv.specs.Cells.{Row}
 use Rattle.table_csv.specs.Databases.{Data}
 use Rattle.keys_dm.specs.declared.violation.Violation.{Violation}
+use Rattle.graphs_dm.specs.declared.graph_name.GraphName.{GraphName}
+use Rattle.graphs_dm.specs.declared.graph_name.GraphName.TheVariants as graph
 use Rattle.cmd_dm.specs.Folder.{schema_file, table_file}
 use Rattle.cmd_dm.specs.Questions.{schema_of, rows_of, violations_of}
 use Rattle.cmd_dm.specs.Reasons.{bad_base, key_reason}
@@ -52,3 +54,9 @@ on_violations (violation ∷ others) next = refuse (key_reason violation)
 
 unfoldable pub keys_step : Data → (Unit {0} → Script) → Script
 keys_step D next = ask (violations_of D) (λ found. on_violations found next)
+
+-- the keys, where the graph of this name is refused for a violated one
+unfoldable pub kept_step : GraphName → Data → (Unit {0} → Script) → Script
+kept_step graph.Direct D next = keys_step D next
+kept_step graph.Map D next = keys_step D next
+kept_step graph.MapKeys D next = next tt

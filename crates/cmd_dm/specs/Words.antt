@@ -4,8 +4,10 @@ use Rattle.std.specs.Option.{option_map}
 use Rattle.std.specs.Str.{bytes_eq}
 use Rattle.value_dm.specs.declared.mode.NullMode.{NullMode}
 use Rattle.value_dm.specs.declared.mode.NullMode.TheVariants.{Plain, EmptyNull}
+use Rattle.graphs_dm.specs.declared.graph_name.GraphName.{GraphName}
+use Rattle.graphs_dm.specs.declared.graph_name.GraphName.TheVariants as graph
 use Rattle.cmd_dm.specs.declared.command.Command.{Command}
-use Rattle.cmd_dm.specs.declared.command.Command.TheVariants.{Direct, Check}
+use Rattle.cmd_dm.specs.declared.command.Command.TheVariants.{Direct, Map, MapKeys, Check}
 
 -- [empty-null]
 abbrev pub nulls_of : List (List ℕ) → Option NullMode
@@ -13,10 +15,16 @@ nulls_of [] = Some Plain
 nulls_of (word ∷ []) = if bytes_eq word (codes "empty-null") then Some EmptyNull else None
 nulls_of words = None
 
+-- the command that writes the graph of this name
+abbrev pub graph_command : GraphName → List ℕ → List ℕ → NullMode → Command
+graph_command graph.Direct base folder nulls = Direct base folder nulls
+graph_command graph.Map base folder nulls = Map base folder nulls
+graph_command graph.MapKeys base folder nulls = MapKeys base folder nulls
+
 -- BASE FOLDER [empty-null]
-abbrev pub direct_of : List (List ℕ) → Option Command
-direct_of (base ∷ folder ∷ last) = option_map (λ nulls. Direct (chars base) (chars folder) nulls) (nulls_of last)
-direct_of words = None
+abbrev pub graph_words : GraphName → List (List ℕ) → Option Command
+graph_words name (base ∷ folder ∷ last) = option_map (λ nulls. graph_command name (chars base) (chars folder) nulls) (nulls_of last)
+graph_words name words = None
 
 -- FOLDER [empty-null]
 abbrev pub check_of : List (List ℕ) → Option Command
@@ -27,5 +35,7 @@ check_of words = None
 abbrev pub command_of : List (List ℕ) → Option Command
 command_of [] = None
 command_of (name ∷ words) =
-    if bytes_eq name (codes "direct") then direct_of words else
+    if bytes_eq name (codes "direct") then graph_words graph.Direct words else
+    if bytes_eq name (codes "map") then graph_words graph.Map words else
+    if bytes_eq name (codes "map-keys") then graph_words graph.MapKeys words else
     if bytes_eq name (codes "check") then check_of words else None

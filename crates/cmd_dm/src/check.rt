@@ -3,7 +3,7 @@ ghost use Rattle.std.specs.List.{flat_map};
 ghost use Rattle.cmd_dm.specs.Check.{check_script, check_text, kind_text, violation_line};
 ghost use Rattle.cmd_dm.specs.Ending.{Ends, result_status, to_output};
 
-use crate::direct::end_of_puts;
+use crate::graphs::end_of_puts;
 use crate::status::Status;
 use crate::steps::read_database;
 use itoa::Buffer;

@@ -15,6 +15,30 @@ pub enum Command {
         nulls: NullMode,
     },
 
+    /// Writes the map graph of the database in a folder.
+    Map {
+        /// What the graph's IRIs begin with.
+        base: Text,
+
+        /// The folder with `schema.sql` and one CSV file a table.
+        folder: Text,
+
+        /// `EmptyNull` where the word `empty-null` is given.
+        nulls: NullMode,
+    },
+
+    /// Writes the map-keys graph of the database in a folder.
+    MapKeys {
+        /// What the graph's IRIs begin with.
+        base: Text,
+
+        /// The folder with `schema.sql` and one CSV file a table.
+        folder: Text,
+
+        /// `EmptyNull` where the word `empty-null` is given.
+        nulls: NullMode,
+    },
+
     /// Writes a line for each violated key of the database in a folder, and their count.
     Check {
         /// The folder with `schema.sql` and one CSV file a table.

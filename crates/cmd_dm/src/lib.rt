@@ -4,9 +4,9 @@
 mod causes;
 mod check;
 mod command;
-mod direct;
 mod fault_line;
 mod folder;
+mod graphs;
 mod reasons;
 mod status;
 mod steps;

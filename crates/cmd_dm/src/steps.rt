@@ -4,15 +4,19 @@ ghost use Rattle.members_dm.specs.Membership.{NoRepeats};
 ghost use Rattle.schema_dm.specs.Naming.{column_names};
 ghost use Rattle.schema_dm.specs.Schemas.{IsSchema};
 ghost use Rattle.table_csv.specs.Cells.{AreRowsOf};
+ghost use Rattle.keys_dm.specs.TableIndexes.{AreIndexesOf};
+ghost use Rattle.keys_dm.specs.Violations.{KeepsKeys};
+ghost use Rattle.graphs_dm.specs.Graphs.{IsDefined};
 ghost use Rattle.cmd_dm.specs.Ending.{Step, PureStep};
 ghost use Rattle.cmd_dm.specs.Script.{load};
-ghost use Rattle.cmd_dm.specs.Steps.{base_step, database_step, keys_step, rows_step, schema_step, tables_step};
+ghost use Rattle.cmd_dm.specs.Steps.{base_step, database_step, kept_step, keys_step, rows_step, schema_step, tables_step};
 
 use crate::folder::{load_schema, load_table};
 use crate::reasons::{ddl_status, key_status, table_status};
 use crate::status::{File, Reason, Status};
 use ddl_dm::read_ddl;
-use keys_dm::violations;
+use graphs_dm::GraphName;
+use keys_dm::{KeyIndexes, violations_by};
 use names_dm::Base;
 use outside_dm::{LoadError, Shelf};
 use schema_dm::{Schema, Table};
@@ -125,12 +129,33 @@ pub(crate) fn read_database<S: Shelf>(
 
 /// Looks at the database's keys as the next step.
 #[tactic(auto, unfolding(crate::specs::Steps::keys_step))]
-pub(crate) fn check_keys(alloc: Global, database: &Database) -> Result<(), Status>
-    ensures { PureStep (keys_step database.now) result }
+fn check_keys(alloc: Global, database: &Database, indexes: &KeyIndexes) -> Result<(), Status>
+    requires { AreIndexesOf database.now indexes.now }
+    ensures step { PureStep (keys_step database.now) result }
+    ensures kept { IfOk result (λ _. KeepsKeys database.now) }
 {
-    let found = violations(alloc, database)?;
+    let found = violations_by(alloc, database, indexes)?;
     match found.as_slice() {
         [] => Ok(()),
         [first, ..] => Err(key_status(first)),
+    }
+}
+
+/// Looks at the database's keys as the next step, where the graph of this name is refused for a violated one.
+#[tactic(auto, unfolding(crate::specs::Steps::kept_step))]
+pub(crate) fn check_kept(
+    alloc: Global,
+    name: GraphName,
+    database: &Database,
+    indexes: &KeyIndexes,
+) -> Result<(), Status>
+    requires { AreIndexesOf database.now indexes.now }
+    ensures step { PureStep (kept_step name database.now) result }
+    ensures defined { IfOk result (λ _. IsDefined name database.now) }
+{
+    match name {
+        GraphName::Direct => check_keys(alloc, database, indexes),
+        GraphName::Map => check_keys(alloc, database, indexes),
+        GraphName::MapKeys => Ok(()),
     }
 }

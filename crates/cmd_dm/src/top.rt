@@ -10,10 +10,11 @@ ghost use Rattle.cmd_dm.specs.declared.status.File.{File};
 
 use crate::check::run_check;
 use crate::command::Command;
-use crate::direct::run_direct;
 use crate::fault_line::tell;
+use crate::graphs::run_graph;
 use crate::status::Status;
 use crate::words::{WordError, read_words};
+use graphs_dm::GraphName;
 use outside_dm::{Shelf, Sink};
 use std::alloc::Global;
 
@@ -32,7 +33,17 @@ fn run_command<S: Shelf, K: Sink>(
             base,
             folder,
             nulls,
-        } => run_direct(alloc, base, folder, *nulls, shelf, out),
+        } => run_graph(alloc, GraphName::Direct, base, folder, *nulls, shelf, out),
+        Command::Map {
+            base,
+            folder,
+            nulls,
+        } => run_graph(alloc, GraphName::Map, base, folder, *nulls, shelf, out),
+        Command::MapKeys {
+            base,
+            folder,
+            nulls,
+        } => run_graph(alloc, GraphName::MapKeys, base, folder, *nulls, shelf, out),
         Command::Check { folder, nulls } => run_check(alloc, folder, *nulls, shelf, out),
     }
 }

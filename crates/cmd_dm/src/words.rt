@@ -1,8 +1,9 @@
 ghost use Rattle.std.specs.Prelude.{◌≡◌, ◌↔◌, Some, None, IfOk, IfErr, IsErrOf, chars, map, string_bytes};
-ghost use Rattle.cmd_dm.specs.Words.{check_of, command_of, direct_of, nulls_of};
+ghost use Rattle.cmd_dm.specs.Words.{check_of, command_of, graph_command, graph_words, nulls_of};
 ghost use Rattle.cmd_dm.specs.declared.words.WordError.TheVariants.{Memory, Usage};
 
 use crate::command::Command;
+use graphs_dm::GraphName;
 use std::alloc::{AllocError, Global};
 use std::convert::From;
 use thiserror::Error;
@@ -54,19 +55,40 @@ fn read_nulls(words: &[String]) -> Result<NullMode, WordError>
     }
 }
 
-/// The words behind `direct`.
-fn read_direct(alloc: Global, words: &[String]) -> Result<Command, WordError>
-    ensures ok { IfOk result (λ command. direct_of (map string_bytes words.now) ≡ Some command) }
-    ensures usage { IsErrOf result WordError.Usage ↔ (direct_of (map string_bytes words.now) ≡ None) }
+/// The command that writes the graph of this name.
+fn graph_command(name: GraphName, base: Text, folder: Text, nulls: NullMode) -> Command
+    ensures { result ≡ graph_command name base folder nulls }
+{
+    match name {
+        GraphName::Direct => Command::Direct {
+            base,
+            folder,
+            nulls,
+        },
+        GraphName::Map => Command::Map {
+            base,
+            folder,
+            nulls,
+        },
+        GraphName::MapKeys => Command::MapKeys {
+            base,
+            folder,
+            nulls,
+        },
+    }
+}
+
+/// The words behind the word for the graph of this name.
+fn read_graph_words(alloc: Global, name: GraphName, words: &[String]) -> Result<Command, WordError>
+    ensures ok { IfOk result (λ command. graph_words name (map string_bytes words.now) ≡ Some command) }
+    ensures usage { IsErrOf result WordError.Usage ↔ (graph_words name (map string_bytes words.now) ≡ None) }
 {
     match words {
         [base, folder, last @ ..] => {
             let nulls = read_nulls(last)?;
-            Ok(Command::Direct {
-                base: text_of(alloc, base)?,
-                folder: text_of(alloc, folder)?,
-                nulls,
-            })
+            let base = text_of(alloc, base)?;
+            let folder = text_of(alloc, folder)?;
+            Ok(graph_command(name, base, folder, nulls))
         }
         _ => Err(WordError::Usage),
     }
@@ -99,7 +121,11 @@ pub fn read_words(alloc: Global, words: &[String]) -> Result<Command, WordError>
         [] => Err(WordError::Usage),
         [name, rest @ ..] => {
             if name.as_str() == "direct" {
-                read_direct(alloc, rest)
+                read_graph_words(alloc, GraphName::Direct, rest)
+            } else if name.as_str() == "map" {
+                read_graph_words(alloc, GraphName::Map, rest)
+            } else if name.as_str() == "map-keys" {
+                read_graph_words(alloc, GraphName::MapKeys, rest)
             } else if name.as_str() == "check" {
                 read_check(alloc, rest)
             } else {
