@@ -10,6 +10,7 @@ use Rattle.solutions_dm.specs.declared.keys.Keyed.{Keyed}
 use Rattle.solutions_dm.specs.declared.row_pair.RowPair.{RowPair}
 use Rattle.solutions_dm.specs.Columns.{AreApart, compatible, IsFilled}
 use Rattle.solutions_dm.specs.Keys.{key_at, is_below, rows_of, AreRows, IsKeyed}
+use Rattle.solutions_dm.specs.Merge.{AreInRange}
 use Rattle.solutions_dm.specs.Pairs.{IsPair, row_pairs, joined}
 use Rattle.solutions_dm.specs.Table.{Table}
 use Rattle.members_dm.specs.InOrder.{positions_below}
@@ -84,11 +85,13 @@ module _ (left right : List Column) where
 -- ---- the public clauses
 
 module _ (left right : Table) (lefts rights : List ℕ) (permuted : IsPermutation (positions_below left.rows) lefts) (others : IsPermutation (positions_below right.rows) rights) where
+  sound : All (Sound left.columns right.columns left.rows right.rows) (joined left.columns right.columns lefts rights)
+  sound = joined_sound left.columns right.columns left.rows right.rows lefts rights (positions_within left.rows lefts permuted) (positions_within right.rows rights others)
+
   pub exact : AreApart left.columns → (p : RowPair) → Contains (joined left.columns right.columns lefts rights) p ↔ IsPair left right p
   unfolding Sound
   exact apart p = (
-    (λ h. let s = All-contains (Sound left.columns right.columns left.rows right.rows) (joined left.columns right.columns lefts rights) p
-        (joined_sound left.columns right.columns left.rows right.rows lefts rights (positions_within left.rows lefts permuted) (positions_within right.rows rights others)) h in
+    (λ h. let s = All-contains (Sound left.columns right.columns left.rows right.rows) (joined left.columns right.columns lefts rights) p sound h in
         (s.0, s.1, compatible-true left.columns p.left right.columns p.right s.2)),
     (λ h. joined_complete left.columns right.columns lefts rights p.left p.right (rows_contain left.rows lefts permuted p.left h.0) (rows_contain right.rows rights others p.right h.1)
         (true-compatible left.columns p.left right.columns p.right apart h.2)),
@@ -96,6 +99,16 @@ module _ (left right : Table) (lefts rights : List ℕ) (permuted : IsPermutatio
 
   pub once : AllPairs (λ (p q : RowPair). p ≢ q) (joined left.columns right.columns lefts rights)
   once = joined_once left.columns right.columns lefts rights (positions_apart left.rows lefts permuted) (positions_apart right.rows rights others)
+
+  pub in_range : AreInRange left right (joined left.columns right.columns lefts rights)
+  unfolding Sound
+  in_range = All-weaker (Sound left.columns right.columns left.rows right.rows) (λ (p : RowPair). (p.left < left.rows) × (p.right < right.rows)) (λ p h. (h.0, h.1))
+      (joined left.columns right.columns lefts rights) sound
+
+  pub lefts_in_range : All (λ (p : RowPair). p.left < left.rows) (joined left.columns right.columns lefts rights)
+  unfolding Sound
+  lefts_in_range = All-weaker (Sound left.columns right.columns left.rows right.rows) (λ (p : RowPair). p.left < left.rows) (λ p h. h.0)
+      (joined left.columns right.columns lefts rights) sound
 
 -- ---- one step of the merge
 

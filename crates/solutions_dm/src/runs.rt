@@ -3,6 +3,7 @@ ghost use Rattle.std.specs.Prelude.{◌≡◌, ◌≢◌, ◌<◌, ◌≤◌, �
 ghost use Rattle.std.specs.List.{AllWithin};
 ghost use Rattle.solutions_dm.specs.Columns.{IsFilled};
 ghost use Rattle.solutions_dm.specs.Keys.{IsKeyed, AreRows, is_below, key_at, rows_of};
+ghost use Rattle.solutions_dm.specs.Merge.{AreInRange};
 ghost use Rattle.solutions_dm.specs.Pairs.{IsPair, joined, row_pairs};
 ghost use Rattle.solutions_dm.specs.declared.keys.Keyed.{Keyed as TheKeyed};
 ghost use Rattle.solutions_dm.specs.declared.row_pair.RowPair.{RowPair as ThePair};
@@ -110,6 +111,8 @@ fn merged_runs(
 pub fn pairs(alloc: Global, left: &Solutions, right: &Solutions) -> Result<PairList, AllocError>
     ensures exact { IfOk result (λ ps. (p : ThePair) → Contains ps p ↔ IsPair left.now right.now p) }
     ensures once { IfOk result (λ ps. AllPairs (λ p q. p ≢ q) ps) }
+    ensures left_rows { IfOk result (λ ps. All (λ (p : ThePair). p.left < left.now.rows) ps) }
+    ensures in_range { IfOk result (λ ps. AreInRange left.now right.now ps) }
 {
     let names = shared_names(alloc, left, right)?;
     let left_rows = sorted_by_key(alloc, left, names.as_slice())?;
