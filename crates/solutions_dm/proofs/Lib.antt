@@ -1,0 +1,13 @@
+pub mod ColumnLemmas
+pub mod JointLemmas
+pub mod KeyLemmas
+pub mod ListLemmas
+pub mod MarkLemmas
+pub mod MergeLemmas
+pub mod NumberLemmas
+pub mod PickLemmas
+pub mod RepeatLemmas
+pub mod RunLemmas
+pub mod SelectLemmas
+pub mod SiftLemmas
+pub mod UnionLemmas

@@ -1,0 +1,11 @@
+pub mod Columns
+pub mod Differences
+pub mod Joint
+pub mod Keys
+pub mod Marks
+pub mod Merge
+pub mod Pairs
+pub mod Picks
+pub mod Repeats
+pub mod Selects
+pub mod Table
