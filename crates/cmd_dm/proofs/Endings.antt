@@ -235,6 +235,11 @@ stores_none : (files : Option Files) → StoresAll [] files files
 stores_none None = tt
 stores_none (Some files) = refl
 
+-- a step that led to one that loads nothing
+pub step_then : {B : Type 0} (node last : (B → Script) → Script) (s t : ShelfState) (result : Result B Status) → ((next : B → Script) → Leads (node next) s (last next) t) → Step last t t result → Step node s t result
+step_then node last s t (Ok value) leads step = λ next. leads_trans (leads next) (step next)
+step_then node last s t (Err status) leads step = λ target next out. ends_after (leads next) (step target next out)
+
 -- a text was put
 pub ends_writes : (text : List ℕ) (s : ShelfState) {o p : SinkState} (result : Result (Unit {0}) PutError) →
     Writes text o p result → Ends to_output (write (text_work text)) s s o p (put_status result)

@@ -20,10 +20,16 @@ use Rattle.table_csv.specs.declared.fault.TableError.TheVariants as table
 use Rattle.table_csv.proofs.HeaderLemmas.{fields_differ}
 use Rattle.table_csv.proofs.OneFile.{file_one, only_memory}
 use Rattle.table_csv.proofs.OneFault.{one_fault}
+use Rattle.names_dm.specs.Statements.{Statement}
+use Rattle.ntriples_reader_dm.specs.Lines.{lines}
+use Rattle.ntriples_reader_dm.specs.declared.fault.GraphError.{GraphError}
+use Rattle.ntriples_reader_dm.specs.declared.fault.GraphError.TheVariants as graph
+use Rattle.ntriples_reader_dm.proofs.Cuts.{triples_one}
+use Rattle.ntriples_reader_dm.proofs.OneAnswer.{one_answer}
 use Rattle.keys_dm.specs.Violations.{ViolatesAt}
 use Rattle.graphs_dm.proofs.GraphLevels.{graph_text_unique}
-use Rattle.cmd_dm.specs.Questions.{Question, AnswerTo, Answers, IsSchemaAnswer, IsRowsAnswer, schema_of, rows_of, violations_of, graph_of}
-use Rattle.cmd_dm.specs.Reasons.{ddl_status, table_status}
+use Rattle.cmd_dm.specs.Questions.{Question, AnswerTo, Answers, IsSchemaAnswer, IsRowsAnswer, IsTriplesAnswer, schema_of, rows_of, triples_of, violations_of, graph_of}
+use Rattle.cmd_dm.specs.Reasons.{ddl_status, graph_status, table_status}
 use Rattle.cmd_dm.specs.Script.{Script, Outcome, too_long, load, ask, refuse, write, AfterLoad, Comes}
 use Rattle.cmd_dm.specs.declared.status.File.{File}
 use Rattle.cmd_dm.specs.declared.status.Reason.{Reason}
@@ -82,6 +88,38 @@ rows_answer_unique columns mode number bytes (Err r) (Err s) distinct h k =
       | inr memory ↦ absurd (refused_rows number h.0 r h.2 memory)
     ]
 
+-- ---- triples
+
+told_graph : (error : GraphError) (reason : Reason) → graph_status error ≡ Refused reason → ¬ (error ≡ graph.Memory)
+told_graph error reason told memory = no_refusal reason (sym (ap graph_status memory) ∙ told)
+
+abbrev Read : Type 0
+Read = Result (List Statement) GraphError
+
+ok_answered : (triples : List Statement) → ¬ (◌≡◌ {A = Read} (Ok triples) (Err graph.Memory))
+ok_answered triples e = absurd cc
+
+errors_one : (e f : GraphError) → ◌≡◌ {A = Read} (Err e) (Err f) → e ≡ f
+errors_one e f same = cc
+
+err_answered : (error : GraphError) → ¬ (error ≡ graph.Memory) → ¬ (◌≡◌ {A = Read} (Err error) (Err graph.Memory))
+err_answered error other e = other (errors_one error graph.Memory e)
+
+no_triples : (bytes : List ℕ) (triples : List Statement) (reason : Reason) → IsTriplesAnswer bytes (Ok triples) → IsTriplesAnswer bytes (Err reason) → ⊥
+no_triples bytes triples reason h k = apart triples k.0 (one_answer bytes (Ok triples) (Err k.0) h k.1 (ok_answered triples) (err_answered k.0 (told_graph k.0 reason k.2)))
+  where
+    apart : (t : List Statement) (e : GraphError) → ◌≡◌ {A = Read} (Ok t) (Err e) → ⊥
+    apart t e same = cc
+
+pub triples_answer_unique : (bytes : List ℕ) (a b : Result (List Statement) Reason) → IsTriplesAnswer bytes a → IsTriplesAnswer bytes b → a ≡ b
+triples_answer_unique bytes (Ok t) (Ok u) h k = ap Ok (triples_one (lines bytes) t u h.0 k.0)
+triples_answer_unique bytes (Ok t) (Err r) h k = absurd (no_triples bytes t r h k)
+triples_answer_unique bytes (Err r) (Ok u) h k = absurd (no_triples bytes u r k h)
+triples_answer_unique bytes (Err r) (Err s) h k =
+    let same = errors_one h.0 k.0
+    (one_answer bytes (Err h.0) (Err k.0) h.1 k.1 (err_answered h.0 (told_graph h.0 r h.2)) (err_answered k.0 (told_graph k.0 s k.2))) in
+    ap Err (refusal_one r s (sym h.2 ∙ ap graph_status same ∙ k.2))
+
 -- ---- answers
 
 -- a question has one right answer
@@ -89,6 +127,7 @@ pub answer_unique : (question : Question) (a b : AnswerTo question) → Answers 
 answer_unique (schema_of bytes) a b h k = schema_answer_unique bytes a b h k
 answer_unique (rows_of columns mode number bytes) a b h k = rows_answer_unique columns mode number bytes a b h.0 h.1 k.1
 answer_unique (violations_of D) a b h k = listing_unique (ViolatesAt D) a b h k
+answer_unique (triples_of bytes) a b h k = triples_answer_unique bytes a b h k
 answer_unique (graph_of name base D) a b h k = graph_text_unique name base D a b h k
 
 after_load_unique : (file : File) (content : Option (List ℕ)) (rest : List ℕ → Outcome → Type 0) →

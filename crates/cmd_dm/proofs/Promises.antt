@@ -1,6 +1,7 @@
 -- What follows of how a run ended for the words as a whole.
 use Rattle.std.proofs.Common.{◌≡◌, ◌∙◌, refl, sym, ap, subst, inl, inr, ◌⊎◌, ℕ, ◌+◌, ◌≤◌, List, [], ◌∷◌, length, Option, Some, None, Result, Ok, Err, true, false, Bool, cond}
-use Rattle.std.specs.Prelude.{IsTrue, IfSome, MatchBool}
+use Rattle.std.specs.Prelude.{IsTrue, IfSome, MatchBool, encode_utf8_all}
+use Rattle.std.specs.List.{flat_map}
 use Rattle.std.specs.FinMap.{get}
 use Rattle.std.specs.Io.KnownBytes.{Appends}
 use Rattle.std.proofs.lemmas.Bool.{le-ltb}
@@ -8,6 +9,9 @@ use Rattle.members_dm.specs.Places.{IsListing}
 use Rattle.members_dm.proofs.PlacesLemmas.{listing_unique}
 use Rattle.value_dm.specs.declared.mode.NullMode.{NullMode}
 use Rattle.names_dm.specs.Namespaces.{is_base}
+use Rattle.names_dm.specs.Statements.{Statement}
+use Rattle.ntriples_dm.specs.Written.{triple_text}
+use Rattle.ntriples_reader_dm.specs.Document.{IsDocument, limit}
 use Rattle.schema_dm.specs.declared.table.Table.{Table}
 use Rattle.outside_dm.specs.Shelves.{Files, ShelfState, longest}
 use Rattle.outside_dm.specs.Sinks.{SinkState}
@@ -20,19 +24,20 @@ use Rattle.graphs_dm.specs.Graphs.{IsGraphText}
 use Rattle.graphs_dm.specs.declared.graph_name.GraphName.{GraphName}
 use Rattle.graphs_dm.specs.declared.graph_name.GraphName.TheVariants as graph
 use Rattle.cmd_dm.specs.Check.{check_script, check_text}
+use Rattle.cmd_dm.specs.Show.{show_script}
 use Rattle.cmd_dm.specs.GraphScript.{graph_script}
 use Rattle.cmd_dm.specs.Ending.{Ends, NoFault, Target, to_output}
 use Rattle.cmd_dm.specs.Folder.{schema_file, table_file}
-use Rattle.cmd_dm.specs.Headline.{HoldsTables, HoldsDatabase, EndsSo, WritesText, WritesKept, WritesFolder, Checks, Promises}
-use Rattle.cmd_dm.specs.Plans.{IsOutcome, NamesFile, folder_file, plan_of}
+use Rattle.cmd_dm.specs.Headline.{HoldsFile, HoldsTables, HoldsDatabase, EndsSo, WritesText, WritesKept, WritesFolder, Checks, Shows, Promises}
+use Rattle.cmd_dm.specs.Plans.{IsOutcome, NamesFile, folder_file, graph_file, plan_of}
 use Rattle.cmd_dm.specs.Questions.{violations_of, graph_of}
 use Rattle.cmd_dm.specs.Reasons.{bad_base, key_reason}
 use Rattle.cmd_dm.specs.Script.{Script, Work, Outcome, usage, refused, done, text_work, too_long, status_of, Comes, AfterLoad, MayLoad, ask, write, refuse}
-use Rattle.cmd_dm.specs.Steps.{base_step, schema_step, rows_step, tables_step, database_step, kept_step, keys_step, on_answer, on_violations}
+use Rattle.cmd_dm.specs.Steps.{base_step, schema_step, rows_step, tables_step, database_step, graph_step, kept_step, keys_step, triples_step, on_answer, on_violations}
 use Rattle.cmd_dm.proofs.Endings.{ends_exact, status_comes}
-use Rattle.cmd_dm.proofs.Outcomes.{outcome_unique, schema_answer_unique, rows_answer_unique}
+use Rattle.cmd_dm.proofs.Outcomes.{outcome_unique, schema_answer_unique, rows_answer_unique, triples_answer_unique}
 use Rattle.cmd_dm.specs.declared.command.Command.{Command}
-use Rattle.cmd_dm.specs.declared.command.Command.TheVariants.{Direct, Map, MapKeys, Check}
+use Rattle.cmd_dm.specs.declared.command.Command.TheVariants.{Direct, Map, MapKeys, Check, Show}
 use Rattle.cmd_dm.specs.declared.status.File.{File}
 use Rattle.cmd_dm.specs.declared.status.File.TheVariants.{Schema, Table as TableFile, Query, Graph, Pattern, More}
 use Rattle.cmd_dm.specs.declared.status.Reason.{Reason}
@@ -138,10 +143,28 @@ graph_names graph_name base folder nulls file name h =
     folder_names folder nulls (mapped graph_name base) file name (λ D file. kept_loads_nothing graph_name D (λ _. put_script graph_name base D) file name (λ h. h.1.1))
     (base_may_load (is_base base) (database_step folder nulls (mapped graph_name base)) file name h)
 
+-- behind the graph nothing is loaded
+graph_may_load : (document : List ℕ) (next : List Statement → Script) (file : File) (name : List ℕ) → ((triples : List Statement) → ¬ MayLoad (next triples) file name) → MayLoad (graph_step document next) file name →
+    (file ≡ Graph) × (name ≡ encode_utf8_all document)
+unfolding graph_step triples_step
+graph_may_load document next file name none (inl h) = (sym h.0, sym h.1)
+graph_may_load document next file name none (inr h) =
+    answer_may_load h.1.1.0 next file name ((file ≡ Graph) × (name ≡ encode_utf8_all document)) (λ triples k. absurd (none triples k)) h.1.1.1.1
+
+show_names : (document : List ℕ) (file : File) (name : List ℕ) → (file ≡ Graph) × (name ≡ encode_utf8_all document) → IfSome (graph_file document file) (λ named. name ≡ named)
+show_names document Schema name h = tt
+show_names document (TableFile number) name h = tt
+show_names document Query name h = tt
+show_names document Graph name h = h.1
+show_names document Pattern name h = tt
+show_names document (More number) name h = tt
+
 command_names : (command : Command) (file : File) (name : List ℕ) → MayLoad (plan_of command).script file name → NamesFile command file name
 command_names (Direct base folder nulls) file name h = graph_names graph.Direct base folder nulls file name h
 command_names (Map base folder nulls) file name h = graph_names graph.Map base folder nulls file name h
 command_names (MapKeys base folder nulls) file name h = graph_names graph.MapKeys base folder nulls file name h
+command_names (Show document) file name h =
+    show_names document file name (graph_may_load document (λ triples. write (text_work (flat_map triple_text triples))) file name (λ triples k. k) h)
 command_names (Check folder nulls) file name h = folder_names folder nulls checked file name (λ D file h. h.1.1) h
 
 -- the file at which the shelf failed is the one that was told
@@ -259,9 +282,20 @@ checks folder nulls files D status ends told held =
     let asked = database_comes files folder nulls D checked outcome held h in
     (check_text D.tables asked.0, ((asked.0, asked.1.0, refl), asked.1.1)))
 
+shows : (document : List ℕ) (files : Files) (bytes : List ℕ) (triples : List Statement) {s t : ShelfState} {o p : SinkState} (status : Status) → Ends to_output (show_script document) s t o p status →
+    s.files ≡ Some files → HoldsFile files (encode_utf8_all document) bytes → IsDocument bytes triples → length triples ≤ limit → Shows triples s t o p status
+unfolding graph_step triples_step
+shows document files bytes triples status ends told held is few =
+    let next : List Statement → Script = λ triples. write (text_work (flat_map triple_text triples)) in
+    writes_text (λ text. text ≡ flat_map triple_text triples) (show_script document) status files ends told (λ outcome h.
+    let asked = after_load Graph (get files (encode_utf8_all document)) bytes (λ bytes. Comes files (triples_step bytes next) outcome) outcome held.held held.short h in
+    let right = triples_answer_unique bytes asked.0 (Ok triples) asked.1.0 (is, few) in
+    (flat_map triple_text triples, (refl, on_known files asked.0 triples next outcome right asked.1.1)))
+
 -- each command keeps its promise
 pub promised : (command : Command) {s t : ShelfState} {o p : SinkState} (status : Status) → Ends (plan_of command).target (plan_of command).script s t o p status → Promises command s t o p status
 promised (Direct base folder nulls) status ends = writes_graph graph.Direct base folder nulls status ends
 promised (Map base folder nulls) status ends = writes_graph graph.Map base folder nulls status ends
 promised (MapKeys base folder nulls) status ends = writes_graph graph.MapKeys base folder nulls status ends
+promised (Show document) status ends = λ files bytes triples told held is few. shows document files bytes triples status ends told held is few
 promised (Check folder nulls) status ends = λ files D told held. checks folder nulls files D status ends told held

@@ -1,12 +1,20 @@
 -- Something comes of each command, over all files.
-use Rattle.std.proofs.Common.{◌≡◌, ℕ, ◌+◌, List, [], ◌∷◌, length, Option, Some, None, Result, Ok, Err, refl, true, false, Bool, nat_lt, subst, sym, cond, inl, inr}
-use Rattle.std.specs.Prelude.{MatchBool}
-use Rattle.std.specs.List.{AllZip}
+use Rattle.std.proofs.Common.{◌≡◌, ◌∙◌, ◌++◌, ◌≤◌, arith, append_assoc, ⊎_elim, ℕ, ◌+◌, List, [], ◌∷◌, length, Option, Some, None, Result, Ok, Err, refl, true, false, Bool, nat_lt, subst, sym, cond, inl, inr}
+use Rattle.std.specs.Prelude.{MatchBool, encode_utf8_all, option_to_list}
+use Rattle.std.specs.List.{AllZip, flat_map}
 use Rattle.std.specs.FinMap.{get}
+use Rattle.std.proofs.lemmas.Bool.{cases_lt}
+use Rattle.std.proofs.lemmas.List.{append-nil}
 use Rattle.members_dm.specs.Membership.{IsIn, NoRepeats}
 use Rattle.members_dm.specs.Places.{IsListing}
 use Rattle.value_dm.specs.declared.mode.NullMode.{NullMode}
 use Rattle.names_dm.specs.Namespaces.{is_base}
+use Rattle.names_dm.specs.Statements.{Statement}
+use Rattle.ntriples_dm.specs.Written.{triple_text}
+use Rattle.ntriples_reader_dm.specs.Document.{AreTriples, limit}
+use Rattle.ntriples_reader_dm.specs.Lines.{lines}
+use Rattle.ntriples_reader_dm.specs.declared.fault.GraphError.TheVariants as read
+use Rattle.ntriples_reader_dm.proofs.Cuts.{one_more_line}
 use Rattle.outside_dm.specs.Shelves.{Files, longest}
 use Rattle.schema_dm.specs.Naming.{column_names}
 use Rattle.schema_dm.specs.Schemas.{IsSchema}
@@ -38,15 +46,16 @@ use Rattle.graphs_dm.proofs.GraphLevels.{some_text}
 use Rattle.cmd_dm.specs.Folder.{schema_file, table_file}
 use Rattle.cmd_dm.specs.GraphScript.{graph_script}
 use Rattle.cmd_dm.specs.Plans.{IsOutcome}
-use Rattle.cmd_dm.specs.Questions.{IsSchemaAnswer, IsRowsAnswer, graph_of, violations_of}
+use Rattle.cmd_dm.specs.Questions.{IsSchemaAnswer, IsRowsAnswer, IsTriplesAnswer, graph_of, violations_of}
 use Rattle.cmd_dm.specs.Reasons.{bad_base, cause_code, key_reason, reason}
 use Rattle.cmd_dm.specs.Script.{Script, Outcome, usage, refused, absent, too_long, done, text_work, AfterLoad, Comes, ask, refuse, write}
-use Rattle.cmd_dm.specs.Steps.{base_step, database_step, kept_step, keys_step, on_answer, on_violations, rows_step, schema_step, tables_step}
+use Rattle.cmd_dm.specs.Steps.{base_step, database_step, graph_step, kept_step, keys_step, on_answer, on_violations, rows_step, schema_step, tables_step, triples_step}
 use Rattle.cmd_dm.specs.Check.{check_text}
+use Rattle.cmd_dm.specs.Show.{show_script}
 use Rattle.cmd_dm.specs.declared.command.Command.{Command}
-use Rattle.cmd_dm.specs.declared.command.Command.TheVariants.{Direct, Map, MapKeys, Check}
+use Rattle.cmd_dm.specs.declared.command.Command.TheVariants.{Direct, Map, MapKeys, Check, Show}
 use Rattle.cmd_dm.specs.declared.status.File.{File}
-use Rattle.cmd_dm.specs.declared.status.File.TheVariants.{Schema, Table as TableFile}
+use Rattle.cmd_dm.specs.declared.status.File.TheVariants.{Schema, Table as TableFile, Graph}
 use Rattle.cmd_dm.specs.declared.status.Reason.{Reason}
 
 -- ---- answers
@@ -83,6 +92,38 @@ rows_answer_some columns mode number bytes distinct none =
     file_some columns mode (fields_differ columns distinct) (records_of bytes) (λ rows is. none (Ok rows) is) (λ error other h.
     let why = rows_fault_some columns mode number bytes error other h in
     none (Err why.0) why.1)
+
+-- what stands behind the lines that were read is read too, or its first fault is an answer
+lines_some : (bytes : List ℕ) (front rest : List (List ℕ)) (triples : List Statement) → lines bytes ≡ front ++ rest → AreTriples front triples → length triples ≤ limit
+    → ¬ ((answer : Result (List Statement) Reason) → ¬ IsTriplesAnswer bytes answer)
+lines_some bytes front [] triples whole says within none =
+    none (Ok triples) (subst (λ (ls : List (List ℕ)). AreTriples ls triples) (sym (whole ∙ append-nil front)) says, within)
+lines_some bytes front (line ∷ rest) triples whole says within none =
+    none (Err (reason 28 0 (length front + 1) 0)) (
+      read.BadLine (length front + 1),
+      record {
+        front = front;
+        bad = line;
+        rest = rest;
+        triples = triples;
+        whole = whole;
+        says = says;
+        within = within;
+        never = λ x is.
+            let more : List Statement = triples ++ option_to_list x in
+            let said = one_more_line front triples line x says is in
+            let parted : lines bytes ≡ (front ++ line ∷ []) ++ rest = whole ∙ sym (append_assoc front (line ∷ []) rest) in
+            ⊎_elim
+            (λ above. none (Err (reason 29 0 0 0)) (read.TooManyTriples, record { front = front ++ line ∷ []; rest = rest; triples = more; whole = parted; says = said; above = above }, refl))
+            (λ small. lines_some bytes (front ++ line ∷ []) rest more parted said small none)
+            (cases_lt limit (length more));
+        counted = refl;
+      },
+      refl,
+    )
+
+triples_answer_some : (bytes : List ℕ) → ¬ ((answer : Result (List Statement) Reason) → ¬ IsTriplesAnswer bytes answer)
+triples_answer_some bytes none = lines_some bytes [] (lines bytes) [] refl refl (omega arith) none
 
 -- ---- steps
 
@@ -172,12 +213,24 @@ graph_some files name base folder nulls =
     let text = some_text name base D database defined in
     none (done (text_work text.0)) (text.0, (text.1, refl)))))
 
+show_some : (files : Files) (name : List ℕ) → SomeComes files (show_script name)
+unfolding graph_step triples_step
+show_some files name none =
+    let next : List Statement → Script = λ triples. write (text_work (flat_map triple_text triples)) in
+    some_loaded Graph (get files (encode_utf8_all name)) (λ bytes o. Comes files (triples_step bytes next) o)
+    (λ bytes none. triples_answer_some bytes (λ answer right. on_triples next answer (λ o comes. none o (answer, (right, comes))))) none
+  where
+    on_triples : (next : List Statement → Script) → (answer : Result (List Statement) Reason) → SomeComes files (on_answer answer (λ triples. write (text_work (flat_map triple_text triples))))
+    on_triples next (Ok triples) none = none (done (text_work (flat_map triple_text triples))) refl
+    on_triples next (Err why) none = none (refused why) refl
+
 -- something comes of words
 pub words_some : (files : Files) (command : Option Command) → ¬ ((outcome : Outcome) → ¬ IsOutcome files command outcome)
 words_some files None none = none usage refl
 words_some files (Some (Direct base folder nulls)) none = graph_some files graph.Direct base folder nulls none
 words_some files (Some (Map base folder nulls)) none = graph_some files graph.Map base folder nulls none
 words_some files (Some (MapKeys base folder nulls)) none = graph_some files graph.MapKeys base folder nulls none
+words_some files (Some (Show name)) none = show_some files name none
 words_some files (Some (Check folder nulls)) none =
     database_some files folder nulls (λ D. ask (violations_of D) (λ found. write (text_work (check_text D.tables found))))
     (λ D database none. violations_some D (λ found listed. none (done (text_work (check_text D.tables found))) (found, (listed, refl)))) none

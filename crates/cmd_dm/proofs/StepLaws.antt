@@ -12,6 +12,10 @@ use Rattle.schema_dm.specs.declared.table.Table.{Table}
 use Rattle.ddl_dm.specs.Schema.{IsDdl, IsDdlFault, IsSchemaRead}
 use Rattle.ddl_dm.specs.declared.ddl.DdlError.{DdlError}
 use Rattle.ddl_dm.specs.declared.ddl.DdlError.TheVariants as ddl
+use Rattle.names_dm.specs.Statements.{Statement}
+use Rattle.ntriples_reader_dm.specs.Answer.{IsAnswer}
+use Rattle.ntriples_reader_dm.specs.declared.fault.GraphError.{GraphError}
+use Rattle.ntriples_reader_dm.specs.declared.fault.GraphError.TheVariants as graph
 use Rattle.outside_dm.specs.Shelves.{ShelfState}
 use Rattle.outside_dm.specs.Sinks.{SinkState}
 use Rattle.table_csv.specs.Cells.{Row}
@@ -21,10 +25,10 @@ use Rattle.table_csv.specs.declared.fault.TableError.TheVariants as table
 use Rattle.table_csv.proofs.Zips.{zipped_behind}
 use Rattle.cmd_dm.specs.Ending.{Target, Ends, Leads}
 use Rattle.cmd_dm.specs.Folder.{table_file}
-use Rattle.cmd_dm.specs.Questions.{schema_of, rows_of}
-use Rattle.cmd_dm.specs.Reasons.{cause_code, ddl_status, reason, table_status}
+use Rattle.cmd_dm.specs.Questions.{schema_of, rows_of, triples_of}
+use Rattle.cmd_dm.specs.Reasons.{cause_code, ddl_status, graph_status, reason, table_status}
 use Rattle.cmd_dm.specs.Script.{Script, load}
-use Rattle.cmd_dm.specs.Steps.{on_answer, rows_step, schema_step, tables_step}
+use Rattle.cmd_dm.specs.Steps.{on_answer, rows_step, schema_step, tables_step, triples_step}
 use Rattle.cmd_dm.proofs.Endings.{ends_after, ends_memory, ends_refused, leads_ask, leads_refl}
 use Rattle.cmd_dm.specs.declared.status.File.TheVariants as file
 use Rattle.cmd_dm.specs.declared.status.Reason.{Reason}
@@ -76,6 +80,24 @@ module _ (columns : List Column) (mode : NullMode) (number : ℕ) (bytes : List 
   rows_end (table.NullRefused place column) h state target next out = rows_refuse (table.NullRefused place column) (reason 24 number place column) h refl state target next out
   rows_end table.TooManyRows h state target next out = rows_refuse table.TooManyRows (reason 25 number 0 0) h refl state target next out
   rows_end table.Memory h state target next out = ends_memory target (rows_step columns mode number bytes next) state out
+
+-- ---- triples
+
+pub triples_read : (bytes : List ℕ) (triples : List Statement) → IsAnswer bytes (Ok triples) → (state : ShelfState) (next : List Statement → Script) → Leads (triples_step bytes next) state (next triples) state
+unfolding triples_step
+triples_read bytes triples is state next = leads_ask (triples_of bytes) (Ok triples) (λ answer. on_answer answer next) state is
+
+triples_refuse : (bytes : List ℕ) (error : GraphError) (why : Reason) → IsAnswer bytes (Err error) → graph_status error ≡ Refused why → (state : ShelfState) (target : Target) (next : List Statement → Script) (out : SinkState) →
+    Ends target (triples_step bytes next) state state out out (Refused why)
+unfolding triples_step
+triples_refuse bytes error why fault told state target next out =
+    ends_after (leads_ask (triples_of bytes) (Err why) (λ answer. on_answer answer next) state (error, fault, told)) (ends_refused target why state out)
+
+pub triples_end : (bytes : List ℕ) (error : GraphError) → IsAnswer bytes (Err error) → (state : ShelfState) (target : Target) (next : List Statement → Script) (out : SinkState) →
+    Ends target (triples_step bytes next) state state out out (graph_status error)
+triples_end bytes (graph.BadLine line) h state target next out = triples_refuse bytes (graph.BadLine line) (reason 28 0 line 0) h refl state target next out
+triples_end bytes graph.TooManyTriples h state target next out = triples_refuse bytes graph.TooManyTriples (reason 29 0 0 0) h refl state target next out
+triples_end bytes graph.Memory h state target next out = ends_memory target (triples_step bytes next) state out
 
 -- ---- tables
 

@@ -1,10 +1,12 @@
 -- What the program promises of its commands, for files that are well-formed.
-use Rattle.std.specs.Prelude.{◌≡◌, ◌⊎◌, ℕ, ◌≤◌, List, [], ◌∷◌, length, Some, IsTrue}
+use Rattle.std.specs.Prelude.{◌≡◌, ◌⊎◌, ℕ, ◌≤◌, List, [], ◌∷◌, length, Some, IsTrue, encode_utf8_all}
 use Rattle.std.specs.Io.KnownBytes.{Appends}
 use Rattle.std.specs.FinMap.{get}
+use Rattle.std.specs.List.{flat_map}
 use Rattle.members_dm.specs.Places.{IsListing}
 use Rattle.value_dm.specs.declared.mode.NullMode.{NullMode}
 use Rattle.names_dm.specs.Namespaces.{is_base}
+use Rattle.names_dm.specs.Statements.{Statement}
 use Rattle.schema_dm.specs.declared.table.Table.{Table}
 use Rattle.outside_dm.specs.Shelves.{Files, ShelfState, longest}
 use Rattle.outside_dm.specs.Sinks.{SinkState}
@@ -14,6 +16,8 @@ use Rattle.table_csv.specs.Databases.{Data}
 use Rattle.table_csv.specs.TableFiles.{IsTableFile}
 use Rattle.keys_dm.specs.Violations.{KeepsKeys, ViolatesAt}
 use Rattle.keys_dm.specs.declared.violation.Violation.{Violation}
+use Rattle.ntriples_dm.specs.Written.{triple_text}
+use Rattle.ntriples_reader_dm.specs.Document.{IsDocument, limit}
 use Rattle.graphs_dm.specs.Graphs.{IsGraphText}
 use Rattle.graphs_dm.specs.declared.graph_name.GraphName.{GraphName}
 use Rattle.graphs_dm.specs.declared.graph_name.GraphName.TheVariants as graph
@@ -22,7 +26,7 @@ use Rattle.cmd_dm.specs.Ending.{NoFault}
 use Rattle.cmd_dm.specs.Folder.{schema_file, table_file}
 use Rattle.cmd_dm.specs.Reasons.{key_reason}
 use Rattle.cmd_dm.specs.declared.command.Command.{Command}
-use Rattle.cmd_dm.specs.declared.command.Command.TheVariants.{Direct, Map, MapKeys, Check}
+use Rattle.cmd_dm.specs.declared.command.Command.TheVariants.{Direct, Map, MapKeys, Check, Show}
 use Rattle.cmd_dm.specs.declared.status.Status.{Status}
 use Rattle.cmd_dm.specs.declared.status.Status.TheVariants.{Ok as Done, Refused, Memory}
 
@@ -81,6 +85,10 @@ abbrev pub Checks : Data → ShelfState → ShelfState → SinkState → SinkSta
 Checks D old new before after status =
     WritesText (λ text. (found : List Violation) × IsListing (ViolatesAt D) found × (text ≡ check_text D.tables found)) old new before after status
 
+-- `show`: the lines of the triples in their written form, in their order, are written
+abbrev pub Shows : List Statement → ShelfState → ShelfState → SinkState → SinkState → Status → Type 0
+Shows triples old new before after status = WritesText (λ text. text ≡ flat_map triple_text triples) old new before after status
+
 -- what each command promises where the shelf tells its files and they are well-formed
 abbrev pub Promises : Command → ShelfState → ShelfState → SinkState → SinkState → Status → Type 0
 Promises (Direct base folder nulls) old new before after status = WritesFolder graph.Direct base folder nulls old new before after status
@@ -88,3 +96,6 @@ Promises (Map base folder nulls) old new before after status = WritesFolder grap
 Promises (MapKeys base folder nulls) old new before after status = WritesFolder graph.MapKeys base folder nulls old new before after status
 Promises (Check folder nulls) old new before after status =
     (files : Files) (D : Data) → old.files ≡ Some files → HoldsDatabase files folder nulls D → Checks D old new before after status
+Promises (Show name) old new before after status =
+    (files : Files) (bytes : List ℕ) (triples : List Statement) → old.files ≡ Some files → HoldsFile files (encode_utf8_all name) bytes → IsDocument bytes triples → length triples ≤ limit
+    → Shows triples old new before after status

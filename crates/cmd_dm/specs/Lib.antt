@@ -10,5 +10,6 @@ pub mod Steps
 pub mod Folder
 pub mod GraphScript
 pub mod Check
+pub mod Show
 pub mod Plans
 pub mod Headline

@@ -1,16 +1,17 @@
 -- The commands: each as a script, with the devices that it writes to.
-use Rattle.std.specs.Prelude.{◌≡◌, ℕ, List, Option, Some, None, IfSome}
+use Rattle.std.specs.Prelude.{◌≡◌, ℕ, List, Option, Some, None, IfSome, encode_utf8_all}
 use Rattle.outside_dm.specs.Shelves.{Files}
 use Rattle.graphs_dm.specs.declared.graph_name.GraphName.TheVariants as graph
 use Rattle.cmd_dm.specs.Check.{check_script}
 use Rattle.cmd_dm.specs.GraphScript.{graph_script}
 use Rattle.cmd_dm.specs.Folder.{schema_file}
 use Rattle.cmd_dm.specs.Ending.{Target, to_output}
+use Rattle.cmd_dm.specs.Show.{show_script}
 use Rattle.cmd_dm.specs.Script.{Script, Outcome, usage, Comes}
 use Rattle.cmd_dm.specs.declared.status.File.{File}
-use Rattle.cmd_dm.specs.declared.status.File.TheVariants.{Schema}
+use Rattle.cmd_dm.specs.declared.status.File.TheVariants.{Schema, Graph}
 use Rattle.cmd_dm.specs.declared.command.Command.{Command}
-use Rattle.cmd_dm.specs.declared.command.Command.TheVariants.{Direct, Map, MapKeys, Check}
+use Rattle.cmd_dm.specs.declared.command.Command.TheVariants.{Direct, Map, MapKeys, Check, Show}
 
 pub record Plan : Type 0 where
   pub target : Target
@@ -21,11 +22,17 @@ plan_of (Direct base folder nulls) = record { target = to_output; script = graph
 plan_of (Map base folder nulls) = record { target = to_output; script = graph_script graph.Map base folder nulls }
 plan_of (MapKeys base folder nulls) = record { target = to_output; script = graph_script graph.MapKeys base folder nulls }
 plan_of (Check folder nulls) = record { target = to_output; script = check_script folder nulls }
+plan_of (Show name) = record { target = to_output; script = show_script name }
 
 -- the schema's file, where it is the file
 abbrev pub folder_file : List ℕ → File → Option (List ℕ)
 folder_file folder Schema = Some (schema_file folder)
 folder_file folder _ = None
+
+-- the graph's file, where it is the file
+abbrev pub graph_file : List ℕ → File → Option (List ℕ)
+graph_file name Graph = Some (encode_utf8_all name)
+graph_file name _ = None
 
 -- the names of the files that the words alone name
 abbrev pub file_of : Command → File → Option (List ℕ)
@@ -33,6 +40,7 @@ file_of (Direct base folder nulls) file = folder_file folder file
 file_of (Map base folder nulls) file = folder_file folder file
 file_of (MapKeys base folder nulls) file = folder_file folder file
 file_of (Check folder nulls) file = folder_file folder file
+file_of (Show name) file = graph_file name file
 
 -- this is the name of the file, where the words alone name it
 abbrev pub NamesFile : Command → File → List ℕ → Type 0

@@ -4,6 +4,9 @@ use Rattle.std.specs.Prelude.{◌≡◌, ℕ, List, Result, Ok, Err}
 use Rattle.members_dm.specs.Membership.{NoRepeats}
 use Rattle.members_dm.specs.Places.{IsListing}
 use Rattle.value_dm.specs.declared.mode.NullMode.{NullMode}
+use Rattle.names_dm.specs.Statements.{Statement}
+use Rattle.ntriples_reader_dm.specs.Answer.{IsAnswer}
+use Rattle.ntriples_reader_dm.specs.declared.fault.GraphError.{GraphError}
 use Rattle.schema_dm.specs.Naming.{column_names}
 use Rattle.schema_dm.specs.declared.draft.Column.{Column}
 use Rattle.schema_dm.specs.declared.table.Table.{Table}
@@ -17,7 +20,7 @@ use Rattle.keys_dm.specs.Violations.{ViolatesAt}
 use Rattle.keys_dm.specs.declared.violation.Violation.{Violation}
 use Rattle.graphs_dm.specs.Graphs.{IsGraphText}
 use Rattle.graphs_dm.specs.declared.graph_name.GraphName.{GraphName}
-use Rattle.cmd_dm.specs.Reasons.{ddl_status, table_status}
+use Rattle.cmd_dm.specs.Reasons.{ddl_status, graph_status, table_status}
 use Rattle.cmd_dm.specs.declared.status.Reason.{Reason}
 use Rattle.cmd_dm.specs.declared.status.Status.TheVariants.{Refused}
 
@@ -28,6 +31,8 @@ pub data Question : Type 0 where
   rows_of : List Column → NullMode → ℕ → List ℕ → Question
   -- all violated keys, in order
   violations_of : Data → Question
+  -- the triples of the bytes
+  triples_of : List ℕ → Question
   -- the text of the graph of this name
   graph_of : GraphName → List ℕ → Data → Question
 
@@ -36,6 +41,7 @@ abbrev pub AnswerTo : Question → Type 0
 AnswerTo (schema_of bytes) = Result (List Table) Reason
 AnswerTo (rows_of columns mode number bytes) = Result (List Row) Reason
 AnswerTo (violations_of D) = List Violation
+AnswerTo (triples_of bytes) = Result (List Statement) Reason
 AnswerTo (graph_of name base D) = List ℕ
 
 abbrev pub IsSchemaAnswer : List ℕ → Result (List Table) Reason → Type 0
@@ -47,9 +53,14 @@ IsRowsAnswer columns mode number bytes (Ok rows) = IsTableFile columns mode byte
 IsRowsAnswer columns mode number bytes (Err reason) =
     (error : TableError) × IsFirstFault columns mode (records_of bytes) error × (table_status number error ≡ Refused reason)
 
+abbrev pub IsTriplesAnswer : List ℕ → Result (List Statement) Reason → Type 0
+IsTriplesAnswer bytes (Ok triples) = IsAnswer bytes (Ok triples)
+IsTriplesAnswer bytes (Err reason) = (error : GraphError) × IsAnswer bytes (Err error) × (graph_status error ≡ Refused reason)
+
 -- the answer is right
 abbrev pub Answers : (question : Question) → AnswerTo question → Type 0
 Answers (schema_of bytes) answer = IsSchemaAnswer bytes answer
 Answers (rows_of columns mode number bytes) answer = NoRepeats (column_names columns) × IsRowsAnswer columns mode number bytes answer
 Answers (violations_of D) found = IsListing (ViolatesAt D) found
+Answers (triples_of bytes) answer = IsTriplesAnswer bytes answer
 Answers (graph_of name base D) text = IsGraphText name base D text

@@ -1,10 +1,12 @@
--- The refusals of input: the code of each cause, and what it names. Bytes, statements, tables, records, columns, rows and keys
+-- The refusals of input: the code of each cause, and what it names. Bytes, statements, lines, tables, records, columns, rows and keys
 -- are counted from 1.
 use Rattle.std.specs.Prelude.{ℕ}
 use Rattle.schema_dm.specs.declared.refusal.SchemaCause.{SchemaCause}
 use Rattle.schema_dm.specs.declared.refusal.SchemaCause.TheVariants.{NoTable, TooManyTables, BadName, NoColumn, TooManyColumns, DuplicateTable, DuplicateColumn, UnknownColumn, UnknownTable, TwoPrimaryKeys, NotAKey, KindMismatch, SameColumnsTwice, NameClash}
 use Rattle.ddl_dm.specs.declared.ddl.DdlError.{DdlError}
 use Rattle.ddl_dm.specs.declared.ddl.DdlError.TheVariants as ddl
+use Rattle.ntriples_reader_dm.specs.declared.fault.GraphError.{GraphError}
+use Rattle.ntriples_reader_dm.specs.declared.fault.GraphError.TheVariants as graph
 use Rattle.table_csv.specs.declared.fault.TableError.{TableError}
 use Rattle.table_csv.specs.declared.fault.TableError.TheVariants as table
 use Rattle.keys_dm.specs.declared.violation.Violation.{Violation}
@@ -57,6 +59,12 @@ table_status number (table.BadValue place column) = Refused (reason 23 number pl
 table_status number (table.NullRefused place column) = Refused (reason 24 number place column)
 table_status number table.TooManyRows = Refused (reason 25 number 0 0)
 table_status number table.Memory = Memory
+
+-- the status of bytes that are no document of triples
+abbrev pub graph_status : GraphError → Status
+graph_status (graph.BadLine line) = Refused (reason 28 0 line 0)
+graph_status graph.TooManyTriples = Refused (reason 29 0 0 0)
+graph_status graph.Memory = Memory
 
 abbrev pub kind_reason : ℕ → ℕ → ViolationKind → Reason
 kind_reason table row NullKey = reason 42 table row 0

@@ -1,7 +1,8 @@
 -- The steps of commands, each as a node of a script: what it puts before whatever is next.
-use Rattle.std.specs.Prelude.{ℕ, ◌+◌, List, [], ◌∷◌, Result, Ok, Err, if◌then◌else◌}
+use Rattle.std.specs.Prelude.{ℕ, ◌+◌, List, [], ◌∷◌, Result, Ok, Err, encode_utf8_all, if◌then◌else◌}
 use Rattle.value_dm.specs.declared.mode.NullMode.{NullMode}
 use Rattle.names_dm.specs.Namespaces.{is_base}
+use Rattle.names_dm.specs.Statements.{Statement}
 use Rattle.schema_dm.specs.declared.draft.Column.{Column}
 use Rattle.schema_dm.specs.declared.table.Table.{Table}
 use Rattle.table_csv.specs.Cells.{Row}
@@ -10,7 +11,7 @@ use Rattle.keys_dm.specs.declared.violation.Violation.{Violation}
 use Rattle.graphs_dm.specs.declared.graph_name.GraphName.{GraphName}
 use Rattle.graphs_dm.specs.declared.graph_name.GraphName.TheVariants as graph
 use Rattle.cmd_dm.specs.Folder.{schema_file, table_file}
-use Rattle.cmd_dm.specs.Questions.{schema_of, rows_of, violations_of}
+use Rattle.cmd_dm.specs.Questions.{schema_of, rows_of, triples_of, violations_of}
 use Rattle.cmd_dm.specs.Reasons.{bad_base, key_reason}
 use Rattle.cmd_dm.specs.Script.{Script, load, ask, refuse}
 use Rattle.cmd_dm.specs.declared.status.File.TheVariants as file
@@ -46,6 +47,14 @@ unfoldable pub database_step : List ℕ → NullMode → (Data → Script) → S
 database_step folder mode next =
     load file.Schema (schema_file folder) (λ bytes. schema_step bytes (λ tables.
     tables_step folder mode 0 tables (λ rows. next (record { tables = tables; rows = rows }))))
+
+-- the triples of the bytes
+unfoldable pub triples_step : List ℕ → (List Statement → Script) → Script
+triples_step bytes next = ask (triples_of bytes) (λ answer. on_answer answer next)
+
+-- the triples of the file of this name
+unfoldable pub graph_step : List ℕ → (List Statement → Script) → Script
+graph_step name next = load file.Graph (encode_utf8_all name) (λ bytes. triples_step bytes next)
 
 -- goes on where no key is violated, or refuses for the first that is
 abbrev pub on_violations : List Violation → (Unit {0} → Script) → Script

@@ -47,4 +47,9 @@ pub enum Command {
         /// `EmptyNull` where the word `empty-null` is given.
         nulls: NullMode,
     },
+    /// Writes each triple of a file of N-Triples in its written form.
+    Show {
+        /// The name of the file.
+        graph: Text,
+    },
 }

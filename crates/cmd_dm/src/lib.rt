@@ -8,6 +8,7 @@ mod fault_line;
 mod folder;
 mod graphs;
 mod reasons;
+mod show;
 mod status;
 mod steps;
 mod top;

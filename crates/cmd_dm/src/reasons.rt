@@ -1,9 +1,10 @@
 ghost use Rattle.std.specs.Prelude.{◌≡◌};
-ghost use Rattle.cmd_dm.specs.Reasons.{cause_code, ddl_status, key_reason, table_status};
+ghost use Rattle.cmd_dm.specs.Reasons.{cause_code, ddl_status, graph_status, key_reason, table_status};
 
 use crate::status::{Reason, Status};
 use ddl_dm::DdlError;
 use keys_dm::{Violation, ViolationKind};
+use ntriples_reader_dm::GraphError;
 use schema_dm::SchemaCause;
 use table_csv::TableError;
 
@@ -69,6 +70,17 @@ pub(crate) fn table_status(number: u64, error: TableError) -> Status
         TableError::NullRefused(place, column) => refused(24, number, place, column),
         TableError::TooManyRows => refused(25, number, 0, 0),
         TableError::Memory => Status::Memory,
+    }
+}
+
+/// The status of bytes that are no document of triples.
+pub(crate) fn graph_status(error: GraphError) -> Status
+    ensures { result ≡ graph_status error }
+{
+    match error {
+        GraphError::BadLine(line) => refused(28, 0, line, 0),
+        GraphError::TooManyTriples => refused(29, 0, 0, 0),
+        GraphError::Memory => Status::Memory,
     }
 }
 

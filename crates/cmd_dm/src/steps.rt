@@ -9,15 +9,16 @@ ghost use Rattle.keys_dm.specs.Violations.{KeepsKeys};
 ghost use Rattle.graphs_dm.specs.Graphs.{IsDefined};
 ghost use Rattle.cmd_dm.specs.Ending.{Step, PureStep};
 ghost use Rattle.cmd_dm.specs.Script.{load};
-ghost use Rattle.cmd_dm.specs.Steps.{base_step, database_step, kept_step, keys_step, rows_step, schema_step, tables_step};
+ghost use Rattle.cmd_dm.specs.Steps.{base_step, database_step, graph_step, kept_step, keys_step, rows_step, schema_step, tables_step, triples_step};
 
 use crate::folder::{load_schema, load_table};
-use crate::reasons::{ddl_status, key_status, table_status};
+use crate::reasons::{ddl_status, graph_status, key_status, table_status};
 use crate::status::{File, Reason, Status};
 use ddl_dm::read_ddl;
 use graphs_dm::GraphName;
 use keys_dm::{KeyIndexes, violations_by};
-use names_dm::Base;
+use names_dm::{Base, Triples};
+use ntriples_reader_dm::read_graph;
 use outside_dm::{LoadError, Shelf};
 use schema_dm::{Schema, Table};
 use std::alloc::Global;
@@ -125,6 +126,30 @@ pub(crate) fn read_database<S: Shelf>(
         Some(database) => Ok(database),
         None => unreachable!(),
     }
+}
+
+/// Reads the triples of a document as the next step.
+#[tactic(auto, unfolding(crate::specs::Steps::triples_step))]
+fn read_triples(alloc: Global, bytes: &Bytes) -> Result<Triples, Status>
+    ensures { PureStep (triples_step bytes.now) result }
+{
+    match read_graph(alloc, bytes.as_slice()) {
+        Ok(triples) => Ok(triples),
+        Err(error) => Err(graph_status(error)),
+    }
+}
+
+/// Loads and reads the triples of the file of this name as the next step.
+#[tactic(auto, unfolding(crate::specs::Steps::graph_step))]
+pub(crate) fn load_graph<S: Shelf>(
+    alloc: Global,
+    name: &Text,
+    shelf: &mut S,
+) -> Result<Triples, Status>
+    ensures { Step (graph_step name.now) (S.state shelf.old) (S.state shelf.new) result }
+{
+    let bytes = load_file(alloc, File::Graph, name.as_str(), shelf)?;
+    read_triples(alloc, &bytes)
 }
 
 /// Looks at the database's keys as the next step.

@@ -12,6 +12,7 @@ use crate::check::run_check;
 use crate::command::Command;
 use crate::fault_line::tell;
 use crate::graphs::run_graph;
+use crate::show::run_show;
 use crate::status::Status;
 use crate::words::{WordError, read_words};
 use graphs_dm::GraphName;
@@ -45,6 +46,7 @@ fn run_command<S: Shelf, K: Sink>(
             nulls,
         } => run_graph(alloc, GraphName::MapKeys, base, folder, *nulls, shelf, out),
         Command::Check { folder, nulls } => run_check(alloc, folder, *nulls, shelf, out),
+        Command::Show { graph } => run_show(alloc, graph, shelf, out),
     }
 }
 

@@ -1,5 +1,5 @@
 ghost use Rattle.std.specs.Prelude.{◌≡◌, ◌↔◌, Some, None, IfOk, IfErr, IsErrOf, chars, map, string_bytes};
-ghost use Rattle.cmd_dm.specs.Words.{check_of, command_of, graph_command, graph_words, nulls_of};
+ghost use Rattle.cmd_dm.specs.Words.{check_of, command_of, graph_command, graph_words, nulls_of, show_of};
 ghost use Rattle.cmd_dm.specs.declared.words.WordError.TheVariants.{Memory, Usage};
 
 use crate::command::Command;
@@ -111,6 +111,19 @@ fn read_check(alloc: Global, words: &[String]) -> Result<Command, WordError>
     }
 }
 
+/// The words behind `show`.
+fn read_show(alloc: Global, words: &[String]) -> Result<Command, WordError>
+    ensures ok { IfOk result (λ command. show_of (map string_bytes words.now) ≡ Some command) }
+    ensures usage { IsErrOf result WordError.Usage ↔ (show_of (map string_bytes words.now) ≡ None) }
+{
+    match words {
+        [graph] => Ok(Command::Show {
+            graph: text_of(alloc, graph)?,
+        }),
+        _ => Err(WordError::Usage),
+    }
+}
+
 /// The command that the words stand for, which don't include the program's name. `Usage` exactly where they stand
 /// for none.
 pub fn read_words(alloc: Global, words: &[String]) -> Result<Command, WordError>
@@ -128,6 +141,8 @@ pub fn read_words(alloc: Global, words: &[String]) -> Result<Command, WordError>
                 read_graph_words(alloc, GraphName::MapKeys, rest)
             } else if name.as_str() == "check" {
                 read_check(alloc, rest)
+            } else if name.as_str() == "show" {
+                read_show(alloc, rest)
             } else {
                 Err(WordError::Usage)
             }

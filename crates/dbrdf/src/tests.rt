@@ -581,6 +581,193 @@ $ map-keys http://foo.example/DB/ d empty
 "
 }
 
+fn shown() -> &'static str {
+    "$ show g
++ g
+# a comment\r
+\r
+<~People/ID=8> <~People#fname> \"Sue\"^^<xsd:string> .  # c\r
+<~People/ID=8> <~People#ID> \"8\"^^<xsd:integer> .\r
+<~People/ID=8> <rdf:type> <~People> .\r
+<~People/ID=7> <~People#ref-addr> <~Addresses/ID=18> .\r
+<~People/ID=7> <~People#addr> \"18\"^^<xsd:integer> .\r
+<~People/ID=7> <~People#fname> \"\\u0042ob\"^^<xsd:string> .\r
+<~People/ID=7> <~People#ID> \"7\"^^<xsd:integer> .\r
+<~People/ID=7> <rdf:type> <~People> .  # c\r
+<~Addresses/ID=18> <~Addresses#state> \"MA\"^^<xsd:string> .\r
+<~Addresses/ID=18> <~Addresses#city> \"Cambridge\"^^<xsd:string> .\r
+<~Addresses/ID=18> <~Addresses#ID> \"18\"^^<xsd:integer> .\r
+<~Addresses/ID=18> <rdf:type> <~Addresses> .\r
+<~People#ref-addr> <rdfs:range> <~Addresses> .\r
+<~People#ref-addr> <rdfs:domain> <~People> .\r
+<~People#ref-addr> <rdf:type> <owl:ObjectProperty> .  # c\r
+<~People#addr> <rdfs:range> <xsd:integer> .\r
+<~People#addr> <rdfs:domain> <~People> .\r
+<~People#addr> <rdf:type> <owl:DatatypeProperty> .\r
+<~People#fname> <rdfs:range> <xsd:string> .\r
+<~People#fname> <rdfs:domain> <~People> .\r
+<~People#fname> <rdf:type> <owl:DatatypeProperty> .\r
+<~People#ID> <rdfs:range> <xsd:integer> .  # c\r
+<~People#ID> <rdfs:domain> <~People> .\r
+<~People#ID> <rdf:type> <owl:DatatypeProperty> .\r
+<~People> <rdf:type> <owl:Class> .\r
+<~Addresses#state> <rdfs:range> <xsd:string> .\r
+<~Addresses#state> <rdfs:domain> <~Addresses> .\r
+<~Addresses#state> <rdf:type> <owl:DatatypeProperty> .\r
+<~Addresses#city> <rdfs:range> <xsd:string> .  # c\r
+<~Addresses#city> <rdfs:domain> <~Addresses> .\r
+<~Addresses#city> <rdf:type> <owl:DatatypeProperty> .\r
+<~Addresses#ID> <rdfs:range> <xsd:integer> .\r
+<~Addresses#ID> <rdfs:domain> <~Addresses> .\r
+<~Addresses#ID> <rdf:type> <owl:DatatypeProperty> .\r
+<~Addresses> <rdf:type> <owl:Class> .\r
+\r
+= 0
+<~People/ID=8> <~People#fname> \"Sue\" .
+<~People/ID=8> <~People#ID> \"8\"^^<xsd:integer> .
+<~People/ID=8> <rdf:type> <~People> .
+<~People/ID=7> <~People#ref-addr> <~Addresses/ID=18> .
+<~People/ID=7> <~People#addr> \"18\"^^<xsd:integer> .
+<~People/ID=7> <~People#fname> \"Bob\" .
+<~People/ID=7> <~People#ID> \"7\"^^<xsd:integer> .
+<~People/ID=7> <rdf:type> <~People> .
+<~Addresses/ID=18> <~Addresses#state> \"MA\" .
+<~Addresses/ID=18> <~Addresses#city> \"Cambridge\" .
+<~Addresses/ID=18> <~Addresses#ID> \"18\"^^<xsd:integer> .
+<~Addresses/ID=18> <rdf:type> <~Addresses> .
+<~People#ref-addr> <rdfs:range> <~Addresses> .
+<~People#ref-addr> <rdfs:domain> <~People> .
+<~People#ref-addr> <rdf:type> <owl:ObjectProperty> .
+<~People#addr> <rdfs:range> <xsd:integer> .
+<~People#addr> <rdfs:domain> <~People> .
+<~People#addr> <rdf:type> <owl:DatatypeProperty> .
+<~People#fname> <rdfs:range> <xsd:string> .
+<~People#fname> <rdfs:domain> <~People> .
+<~People#fname> <rdf:type> <owl:DatatypeProperty> .
+<~People#ID> <rdfs:range> <xsd:integer> .
+<~People#ID> <rdfs:domain> <~People> .
+<~People#ID> <rdf:type> <owl:DatatypeProperty> .
+<~People> <rdf:type> <owl:Class> .
+<~Addresses#state> <rdfs:range> <xsd:string> .
+<~Addresses#state> <rdfs:domain> <~Addresses> .
+<~Addresses#state> <rdf:type> <owl:DatatypeProperty> .
+<~Addresses#city> <rdfs:range> <xsd:string> .
+<~Addresses#city> <rdfs:domain> <~Addresses> .
+<~Addresses#city> <rdf:type> <owl:DatatypeProperty> .
+<~Addresses#ID> <rdfs:range> <xsd:integer> .
+<~Addresses#ID> <rdfs:domain> <~Addresses> .
+<~Addresses#ID> <rdf:type> <owl:DatatypeProperty> .
+<~Addresses> <rdf:type> <owl:Class> .
+$ show g
++ g
+<~Log> <rdf:type> <owl:Class> .
+<~Log#msg> <rdf:type> <owl:DatatypeProperty> .
+<~Log#msg> <rdfs:domain> <~Log> .
+<~Log#msg> <rdfs:range> <xsd:string> .
+_:z.1 <rdf:type> <~Log> .
+_:z.1 <~Log#msg> \"hi\" .
+_:_9 <rdf:type> <~Log> .
+_:_9 <~Log#msg> \"hi\" .
+= 0
+<~Log> <rdf:type> <owl:Class> .
+<~Log#msg> <rdf:type> <owl:DatatypeProperty> .
+<~Log#msg> <rdfs:domain> <~Log> .
+<~Log#msg> <rdfs:range> <xsd:string> .
+_:z.1 <rdf:type> <~Log> .
+_:z.1 <~Log#msg> \"hi\" .
+_:_9 <rdf:type> <~Log> .
+_:_9 <~Log#msg> \"hi\" .
+$ show g
++ g
+<http://a/s><http://a/p>\"\\u00e9\"^^<xsd:string>.# c
+= 0
+<http://a/s> <http://a/p> \"é\" .
+$ show g
++ g
+_:a.b<http://a/p>\"x\"@en-GB.\r= 0
+_:a.b <http://a/p> \"x\"@en-GB .
+$ show g
++ g
+<http://a/s> <http://a/p> \"7\" ^^ <xsd:integer> .
+= 0
+<http://a/s> <http://a/p> \"7\"^^<xsd:integer> .
+$ show g
++ g
+= 0
+"
+}
+
+fn show_refusals() -> &'static str {
+    "$ show g
++ g
+<~Addresses> <rdf:type> <owl:Class> .
+<~Addresses#ID> <rdf:type> <owl:DatatypeProperty> .
+<~Addresses#ID> <rdfs:domain> <~Addresses> .
+<~Addresses#ID> <rdfs:range> <xsd:integer> .
+<~Addresses#city> <rdf:type> <owl:DatatypeProperty> .
+<~Addresses#city> <rdfs:domain> <~Addresses> .
+<~Addresses#city> <rdfs:range> <xsd:string> .
+<~Addresses#state> <rdf:type> <owl:DatatypeProperty> .
+<~Addresses#state> <rdfs:domain> <~Addresses> .
+<~Addresses#state> <rdfs:range> <xsd:string> .
+<~People> <rdf:type> <owl:Class> .
+<~People#ID> <rdf:type> <owl:DatatypeProperty> .
+<~People#ID> <rdfs:domain> <~People> .
+<~People#ID> <rdfs:range> <xsd:integer> .
+<~People#fname> <rdf:type> <owl:DatatypeProperty> .
+<~People#fname> <rdfs:domain> <~People> .
+<~People#fname> <rdfs:range> <xsd:string> .
+<~People#addr> <rdf:type> <owl:DatatypeProperty> .
+<~People#addr> <rdfs:domain> <~People> .
+<~People#addr> <rdfs:range> <xsd:integer> .
+<~People#ref-addr> <rdf:type> <owl:ObjectProperty> .
+<~People#ref-addr> <rdfs:domain> <~People> .
+<~People#ref-addr> <rdfs:range> <~Addresses> .
+<~Addresses/ID=18> <rdf:type> <~Addresses> .
+<~Addresses/ID=18> <~Addresses#ID> \"18\"^^<xsd:integer> .
+<~Addresses/ID=18> <~Addresses#city> \"Cambridge\" .
+<~Addresses/ID=18> <~Addresses#state> \"MA\" .
+<~People/ID=7> <rdf:type> <~People> .
+<~People/ID=7> <~People#ID> \"7\"^^<xsd:integer> .
+<~People/ID=7> <~People#fname> \"Bob\" .
+<~People/ID=7> <~People#addr> \"18\"^^<xsd:integer> .
+<~People/ID=7> <~People#ref-addr> <~Addresses/ID=18> .
+<~People/ID=8> <rdf:type> <~People> .
+<~People/ID=8> <~People#ID> \"8\"^^<xsd:integer> .
+<~People/ID=8> <~People#fname> \"Sue\" = 1
+! dbrdf: refused 28 BadLine place 35
+$ show g
++ g
+<http://a/s> <http://a/p> \"\\x41\" .
+= 1
+! dbrdf: refused 28 BadLine place 1
+$ show g
++ g
+_:a. <http://a/p> \"x\" .
+= 1
+! dbrdf: refused 28 BadLine place 1
+$ show g
++ g
+
+<http://a/s> <http://a/p> \"a= 1
+! dbrdf: refused 28 BadLine place 2
+$ show g
++ g
+<http://a/s> <http://a/p> \"\\uD800\" .
+= 1
+! dbrdf: refused 28 BadLine place 1
+$ show g
+= 3
+! dbrdf: absent graph
+$ show
+= 2
+! dbrdf: usage
+$ show g empty-null
+= 2
+! dbrdf: usage
+"
+}
+
 fn checks() -> &'static str {
     "$ check d
 + d/schema.sql
@@ -955,9 +1142,9 @@ fn run_without_faults(alloc: Global, words: &str, files: FileList) -> Result<Vec
 
 // Whether a run ends as it is told.
 fn ends_as_told(alloc: Global, told: &str) -> Result<bool, Fail> {
-    let (given, wanted) = told.split_once("= ").ok_or("no ending")?;
+    let told = expanded(alloc, told)?;
+    let (given, wanted) = told.as_str().split_once("= ").ok_or("no ending")?;
     let (words, files) = given.split_once('\n').ok_or("no words")?;
-    let wanted = expanded(alloc, wanted)?;
     let found = run_at(alloc, words, files_of(alloc, files)?)?;
     let without_faults = run_without_faults(alloc, words, files_of(alloc, files)?)?;
     Ok((found.as_slice() == wanted.as_bytes()) & (without_faults.as_slice() == wanted.as_bytes()))
@@ -986,6 +1173,27 @@ fn writes_map_graphs(rt: HostRuntime) -> Result<(), Fail> {
 #[test]
 fn writes_map_keys_graphs(rt: HostRuntime) -> Result<(), Fail> {
     all_end_as_told(&rt, rt.alloc(), map_keys())
+}
+
+#[test]
+fn shows_triples(rt: HostRuntime) -> Result<(), Fail> {
+    all_end_as_told(&rt, rt.alloc(), shown())?;
+    all_end_as_told(&rt, rt.alloc(), show_refusals())
+}
+
+#[test]
+fn tells_that_the_graph_failed(rt: HostRuntime) -> Result<(), Fail> {
+    let failing = Failing {
+        load: 1,
+        put: 0,
+        kept: 0,
+        line: 0,
+    };
+    let ended = run_failing(rt.alloc(), "$ show g\n+ g\n= 4", failing)?;
+    assert!(rt; ended.number == 4);
+    assert!(rt; ended.out.bytes().len() == 0);
+    assert!(rt; ended.diag.bytes() == b"dbrdf: read fault graph\n".as_slice());
+    Ok(())
 }
 
 #[test]

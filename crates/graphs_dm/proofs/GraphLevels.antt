@@ -16,7 +16,6 @@ use Rattle.keys_dm.specs.Kept.{HasMatches}
 use Rattle.keys_dm.specs.Violations.{KeepsKeys, Violates}
 use Rattle.keys_dm.specs.declared.violation.ViolationKind.{ViolationKind}
 use Rattle.keys_dm.proofs.OneMatch.{kept_matches}
-use Rattle.graphs_dm.specs.DirectGraph.{IsDirectText}
 use Rattle.graphs_dm.specs.Graphs.{GraphRowStandsAt, HasItsTriples, HasOntology, IsDefined, IsGraphText, MarksViolatingRows, MarksViolations, PutsGraph, StandsAt, of_ontology, of_row, row_mark, row_of_class, row_of_relation}
 use Rattle.graphs_dm.specs.Levels.{any_row_level, graph_level, graph_part, ontology_level, ontology_table, relation_row_level, table_level, tables_level, text_of}
 use Rattle.graphs_dm.specs.Nodes.{row_node}
@@ -268,6 +267,3 @@ marks_rows base D laws = record {
 
 pub some_text : (name : GraphName) (base : List ℕ) (D : Data) → IsDatabase D → IsDefined name D → (text : List ℕ) × IsGraphText name base D text
 some_text name base D database defined = let plan = some_plan name D in (text_of base (graph_level name base D plan.0), graph_text name base D (λ t sides h. database) defined plan.0 plan.1)
-
-pub some_direct_text : (base : List ℕ) (D : Data) → (text : List ℕ) × IsDirectText base D text
-some_direct_text base D = let plan = some_plan Direct D in (text_of base (graph_level Direct base D plan.0), graph_text Direct base D (λ t sides h. absurd h) tt plan.0 plan.1)

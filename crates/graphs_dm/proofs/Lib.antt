@@ -14,4 +14,4 @@ mod KeyTexts
 mod Keys
 mod LineTexts
 mod OntologyTexts
-mod StreamLaws
+mod LevelStreams

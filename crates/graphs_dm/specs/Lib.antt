@@ -5,9 +5,7 @@ pub mod RowFacts
 pub mod Relations
 pub mod Ontology
 pub mod Graphs
-pub mod DirectGraph
 pub mod Plans
 pub mod Levels
 pub mod Heads
-pub mod Streams
 pub mod Lines

@@ -5,13 +5,13 @@ ghost use Rattle.table_csv.specs.Databases.{rows_at};
 ghost use Rattle.keys_dm.specs.TableIndexes.{AreIndexesOf};
 ghost use Rattle.keys_dm.specs.Violations.{KeepsKeys};
 ghost use Rattle.outside_dm.specs.Putting.{Writes};
+ghost use Rattle.pages_dm.specs.Streams.{Streams};
 ghost use Rattle.graphs_dm.specs.Graphs.{HasItsTriples, IsDefined, IsGraphText, MarksViolatingRows, PutsGraph};
 ghost use Rattle.graphs_dm.specs.Heads.{AreAllHeads};
 ghost use Rattle.graphs_dm.specs.KeyNodes.{NodesByKeys};
 ghost use Rattle.graphs_dm.specs.Levels.{graph_level, graph_part, relation_row_level, row_level, table_level, tables_level, text_of};
 ghost use Rattle.graphs_dm.specs.OwnNodes.{RowsHaveOwnNodes};
 ghost use Rattle.graphs_dm.specs.Plans.{AreBinaries};
-ghost use Rattle.graphs_dm.specs.Streams.{Streams};
 
 use crate::GraphName;
 use crate::heads::heads_of;
@@ -23,33 +23,10 @@ use facts_dm::naming_laws;
 use keys_dm::KeyIndexes;
 use names_dm::Base;
 use outside_dm::{PutError, Sink};
+use pages_dm::{put_if_full, put_rest};
 use schema_dm::Binary;
 use std::alloc::{AllocError, Global};
 use table_csv::Database;
-
-// A page that holds so many bytes is put.
-const FULL_PAGE: usize = 65_536;
-
-// Puts the page and empties it where it is full.
-fn put_if_full<K: Sink>(page: &mut Vec<u8>, out: &mut K) -> Result<(), PutError>
-    ensures { Streams [] (K.state out.old) page.old.items (K.state out.new) page.new.items result }
-{
-    if page.len() >= FULL_PAGE {
-        out.put(page.as_slice())?;
-        page.clear();
-    }
-    Ok(())
-}
-
-// Puts what is left on a page.
-fn put_rest<K: Sink>(page: &[u8], out: &mut K) -> Result<(), PutError>
-    ensures { Writes page.now (K.state out.old) (K.state out.new) result }
-{
-    if page.is_empty() {
-        return Ok(());
-    }
-    out.put(page)
-}
 
 // Gathers the lines of the rows of a class on the page.
 fn put_class<K: Sink>(

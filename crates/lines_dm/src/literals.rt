@@ -8,7 +8,7 @@ ghost use Rattle.facts_dm.specs.Vocabulary.{literal_type};
 use itoa::Buffer;
 use lanes_dm::{ByteClass, first_of};
 use std::alloc::{AllocError, Global};
-use value_dm::{Kind, Value, lexical};
+use value_dm::{Kind, Text, Value, lexical};
 
 // The bytes that can't stand for themselves inside quotes.
 fn escaped_bytes() -> ByteClass
@@ -65,6 +65,13 @@ fn append_escaped(bytes: &[u8], out: &mut Vec<u8>) -> Result<(), AllocError>
     out.extend_from_slice(rest)
 }
 
+// Appends a text as it stands inside quotes.
+pub(crate) fn append_quoted(text: &Text, out: &mut Vec<u8>) -> Result<(), AllocError>
+    ensures { OnOk result (out.new.items ≡ out.old.items ++ quoted_text text.now) }
+{
+    append_escaped(text.as_str().as_bytes(), out)
+}
+
 // Appends an integer.
 fn append_integer(number: i64, out: &mut Vec<u8>) -> Result<(), AllocError>
     ensures { OnOk result (out.new.items ≡ out.old.items ++ quoted_text (lexical_form (Value.Integer number))) }
@@ -78,7 +85,7 @@ pub fn append_value(alloc: Global, value: &Value, out: &mut Vec<u8>) -> Result<(
     ensures { OnOk result (out.new.items ≡ out.old.items ++ quoted_text (lexical_form value.now)) }
 {
     match value {
-        Value::Text(text) => append_escaped(text.as_str().as_bytes(), out),
+        Value::Text(text) => append_quoted(text, out),
         Value::Integer(number) => append_integer(*number, out),
         _ => {
             let form = lexical(alloc, value)?;

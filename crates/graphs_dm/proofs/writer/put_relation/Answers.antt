@@ -4,7 +4,7 @@ use Rattle.std.proofs.lemmas.Result.{err_from_is_err_and}
 use Rattle.outside_dm.proofs.Putting.{Writes-same}
 use Rattle.table_csv.specs.Databases.{rows_at}
 use Rattle.graphs_dm.specs.Levels.{relation_row_level}
-use Rattle.graphs_dm.proofs.StreamLaws.{levels_streams_cut, levels_streams_short, levels_streams_start, levels_streams_turn}
+use Rattle.graphs_dm.proofs.LevelStreams.{levels_streams_cut, levels_streams_short, levels_streams_start, levels_streams_turn}
 use Rattle.graphs_dm.proofs.writer.put_relation.Goals as goal
 
 pub loop-i-init : goal.loop-i-init

@@ -1,7 +1,7 @@
 use Rattle.std.proofs.Common.{Ok}
 use Rattle.members_dm.specs.Places.{levels}
 use Rattle.graphs_dm.specs.Levels.{relation_row_level, text_of}
-use Rattle.graphs_dm.specs.Streams.{Streams}
+use Rattle.pages_dm.specs.Streams.{Streams}
 use Rattle.graphs_dm.proofs.writer.put_relation.Given as goal
 
 -- the lines of the first rows have been gathered
