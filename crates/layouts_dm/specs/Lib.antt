@@ -1,0 +1,4 @@
+pub mod Layouts
+pub mod LayoutTables
+pub mod Outcomes
+pub mod Rules
