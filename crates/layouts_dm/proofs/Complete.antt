@@ -27,7 +27,7 @@ module _ (base : List ℕ) (laws : NamingLaws base) (L : Layout) (G : List State
   back f h = let r = d.only (triple_of base f) h in subst (Holds base L) (sym (laws.one_fact f r.0 r.2)) r.1
 
   pub same_class : (c e : Class) → IsIn c L.classes → IsIn e L.classes → c.name ≡ e.name → c ≡ e
-  same_class c e h k q = one_by_key (λ (x : Class). x.name) L.classes w.names c e h k q
+  same_class c e h k q = one_by_key (λ (x : Class). x.name) L.classes w.classes c e h k q
 
   pub same_part : (p r : Part) → IsIn p L.parts → IsIn r L.parts → p.link ≡ r.link → p ≡ r
   same_part p r h k q = one_by_key (λ (x : Part). x.link) L.parts w.links p r h k q

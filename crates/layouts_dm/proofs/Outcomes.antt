@@ -6,13 +6,14 @@ use Rattle.std.proofs.lemmas.Bool.{cases_lt}
 use Rattle.std.proofs.lemmas.Bool.Decides.{eqb_tells}
 use Rattle.layouts_dm.specs.Rules.{Accepted, Explains, IsClass, ReadOff}
 use Rattle.layouts_dm.specs.Outcomes.{Applies, Cause, NoKeyValue, Passes, SaysAt, TwoTables, TwoValues, Unexplained}
-use Rattle.facts_dm.specs.Facts.{Fact, a_cell, a_class, a_domain, a_link, a_link_range, a_mark, a_node, a_property, a_range, an_object, rel_link, triple_of}
+use Rattle.facts_dm.specs.Facts.{Fact, KindText, Link, Node, a_cell, a_class, a_domain, a_link, a_link_range, a_mark, a_node, a_property, a_range, an_object, rel_link, triple_of}
 use Rattle.members_dm.specs.Membership.{IsIn}
 use Rattle.layouts_dm.specs.Layouts.{Layout, cell_fact}
 use Rattle.layouts_dm.specs.LayoutTables.{AreOfShape, AreTablesOf, SameTable, StandsFor, literal_table}
 use Rattle.table_csv.specs.Plain.{PlainTable}
 use Rattle.schema_dm.specs.Naming.{Name}
 use Rattle.facts_dm.specs.Meanings.{NamingLaws}
+use Rattle.names_dm.specs.declared.names.ColumnName.{ColumnName}
 use Rattle.names_dm.specs.Statements.{Statement}
 use Rattle.members_dm.proofs.ElementsLemmas.{index_of_item, item_at_index}
 use Rattle.layouts_dm.proofs.Complete as complete
@@ -90,6 +91,16 @@ module _ (base : List ℕ) (laws : NamingLaws base) (G : List Statement) where
   passes_not i p TwoTables h = h.5 (p.one_table h.0 h.1 h.2 h.3 h.4 h.6 h.7)
   passes_not i p NoKeyValue h = h.8 (p.values h.0 h.1 h.2 h.3 h.4 h.5 h.6)
 
+  -- values, nodes and links are different facts
+  value_node : (n m : Node) (c : ColumnName) (v : KindText) (t : Name) → a_cell n c v ≡ a_node m t → ⊥
+  value_node n m c v t e = cc
+
+  value_link : (n m o : Node) (c : ColumnName) (v : KindText) (l : Link) → a_cell n c v ≡ a_link m l o → ⊥
+  value_link n m o c v l e = cc
+
+  node_link : (n m o : Node) (t : Name) (l : Link) → a_node n t ≡ a_link m l o → ⊥
+  node_link n m o t l e = cc
+
   -- the fact that one place says
   one_said : (i : ℕ) (f g : Fact) → SaysAt base G i f → SaysAt base G i g → f ≡ g
   one_said i f g a b = let s : Some (triple_of base f) ≡ Some (triple_of base g) = sym a ∙ b in laws.one_fact f g (unsome s)
@@ -115,12 +126,12 @@ module _ (base : List ℕ) (laws : NamingLaws base) (G : List Statement) where
   one_cause i TwoValues Unexplained h g = absurd (explained_not i (cell_fact h.1 h.2 h.3 h.5) h.9 h.11 g)
   one_cause i TwoTables Unexplained h g = absurd (explained_not i (a_node h.1 h.3) h.7 h.9 g)
   one_cause i NoKeyValue Unexplained h g = absurd (explained_not i (a_link h.3 (rel_link h.0) h.4) h.6 h.7 g)
-  one_cause i TwoValues TwoTables h g = absurd (let e = one_said i _ _ h.9 g.7 in cc)
-  one_cause i TwoValues NoKeyValue h g = absurd (let e = one_said i _ _ h.9 g.6 in cc)
-  one_cause i TwoTables TwoValues h g = absurd (let e = one_said i _ _ h.7 g.9 in cc)
-  one_cause i TwoTables NoKeyValue h g = absurd (let e = one_said i _ _ h.7 g.6 in cc)
-  one_cause i NoKeyValue TwoValues h g = absurd (let e = one_said i _ _ h.6 g.9 in cc)
-  one_cause i NoKeyValue TwoTables h g = absurd (let e = one_said i _ _ h.6 g.7 in cc)
+  one_cause i TwoValues TwoTables h g = absurd (value_node _ _ _ _ _ (one_said i (cell_fact h.1 h.2 h.3 h.5) (a_node g.1 g.3) h.9 g.7))
+  one_cause i TwoValues NoKeyValue h g = absurd (value_link _ _ _ _ _ _ (one_said i (cell_fact h.1 h.2 h.3 h.5) (a_link g.3 (rel_link g.0) g.4) h.9 g.6))
+  one_cause i TwoTables TwoValues h g = absurd (value_node _ _ _ _ _ (one_said i (cell_fact g.1 g.2 g.3 g.5) (a_node h.1 h.3) g.9 h.7))
+  one_cause i TwoTables NoKeyValue h g = absurd (node_link _ _ _ _ _ (one_said i (a_node h.1 h.3) (a_link g.3 (rel_link g.0) g.4) h.7 g.6))
+  one_cause i NoKeyValue TwoValues h g = absurd (value_link _ _ _ _ _ _ (one_said i (cell_fact g.1 g.2 g.3 g.5) (a_link h.3 (rel_link h.0) h.4) g.9 h.6))
+  one_cause i NoKeyValue TwoTables h g = absurd (node_link _ _ _ _ _ (one_said i (a_node g.1 g.3) (a_link h.3 (rel_link h.0) h.4) g.7 h.6))
 
   -- what is read off, where every triple passes, is what the graph stands for
   pub stands : (x : Statement) → IsIn x G → ((i : ℕ) → i < length G → Passes base G i) → (L : Layout) → ReadOff base G L → (tables : List PlainTable) → AreOfShape tables

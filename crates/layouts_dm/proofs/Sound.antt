@@ -101,7 +101,7 @@ module _ (base : List ℕ) (laws : NamingLaws base) (L : Layout) (G : List State
     columns = λ c j. let x = k.sort.columns c j in has_column name.table c x.0 x.1;
     no_clash = λ x s h.
         let named : name ≡ record { table = name.table; columns = x ∷ [] } = λ t. record { table = name.table; columns = s t } in
-        apart name.table (codes "ref-" ++ x) p h i (sym (alone_iri base name.table x) ∙ ap (λ r. link_iri base (ref_link r)) (sym named) ∙ ap (link_iri base) (sym e));
+        apart name.table (codes "ref-" ++ x) p h i (alone_iri base name.table x ∙ ap (λ r. link_iri base (ref_link r)) (sym named) ∙ ap (link_iri base) (sym e));
   }
   good p (rel_link q) i e k = record {
     two = k.sort.two;

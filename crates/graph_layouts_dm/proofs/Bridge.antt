@@ -1,0 +1,215 @@
+-- The views of a database, and what the schema's validity gives of them.
+use Rattle.std.proofs.Common.{◌≡◌, ℕ, ◌<◌, Bool, true, List, [], ◌∷◌, ◌++◌, map, length, get_or, refl, sym, ap, ◌∙◌, subst, inl, inr, arith, Some, None, Option}
+use Rattle.std.specs.Prelude.{◌≢◌, ◌↔◌, codes, slice_get, slice_index_or}
+use Rattle.std.specs.List.{Any}
+use Rattle.std.specs.Option.{option_map}
+use Rattle.std.proofs.lemmas.List.Elements.{All-get_or}
+use Rattle.std.proofs.lemmas.Option.{get_or_from_slice_get, slice_get-get_or, slice_get-map, slice_get_within}
+use Rattle.members_dm.specs.Membership.{IsIn, IsRising, NoRepeats}
+use Rattle.members_dm.proofs.AnyLemmas.{any_from_item}
+use Rattle.members_dm.proofs.ElementsLemmas.{NoRepeats-map, item_at_index, item_within, one_index}
+use Rattle.members_dm.proofs.MembershipLemmas.{IsIn-map, map-IsIn, rising-NoRepeats}
+use Rattle.schema_dm.specs.Naming.{Name, column_place, name_at}
+use Rattle.schema_dm.specs.Schemas.{IsForeignKey, IsTable, no_table, table_at}
+use Rattle.schema_dm.specs.Shapes.{IsBefore}
+use Rattle.schema_dm.specs.declared.draft.Column.{Column}
+use Rattle.schema_dm.specs.declared.table.ForeignKey.{ForeignKey}
+use Rattle.schema_dm.specs.declared.table.Table.{Table}
+use Rattle.names_dm.specs.Apart.{NamesApart}
+use Rattle.names_dm.specs.declared.names.ColumnName.{ColumnName}
+use Rattle.facts_dm.specs.Facts.{KindText, link_iri, ref_link_iri}
+use Rattle.names_dm.specs.Names.{ref_iri}
+use Rattle.table_csv.specs.Cells.{AreRowsOf, Cell, IsCellOf, IsRowOf, Row}
+use Rattle.table_csv.specs.Databases.{Data, IsDatabase, rows_at}
+use Rattle.table_csv.proofs.Zips.{zipped_at}
+use Rattle.keys_dm.specs.KeyCells.{row_at}
+use Rattle.layouts_dm.specs.LayoutTables.{value_text, class_column}
+use Rattle.graphs_dm.specs.Nodes.{row_node}
+use Rattle.graphs_dm.specs.OwnNodes.{RowsHaveOwnNodes}
+use Rattle.layouts_dm.specs.Layouts.{ClassColumn, column_named, property_iri}
+use Rattle.graphs_dm.specs.Relations.{CountsAsClass}
+use Rattle.graphs_dm.specs.declared.graph_name.GraphName.{GraphName}
+use Rattle.graphs_dm.specs.declared.graph_name.GraphName.TheVariants.{MapKeys, Map}
+use Rattle.graph_layouts_dm.proofs.Views.{GoodData, IsClassAt, KeyView, TableView, Views, key_link}
+use Rattle.graph_layouts_dm.proofs.Columns.{column_there, name_at_is, one_list, one_place, place_is}
+use Rattle.graph_layouts_dm.proofs.MapStands.{map_map}
+use Rattle.layouts_dm.proofs.Unique.{before_one_way}
+
+-- the table's columns, each by its name and kind, in rising order of names
+pub record SortedColumns (table : Table) (columns : List ClassColumn) : Type 0 where
+  pub all : (k : ℕ) (c : Column) → slice_get table.columns k ≡ Some c → IsIn (class_column c) columns
+  pub only : (d : ClassColumn) → IsIn d columns → (k : ℕ) × (c : Column) × (slice_get table.columns k ≡ Some c) × (class_column c ≡ d)
+  pub rising : IsRising IsBefore (map (λ d. d.name) columns)
+
+-- which tables are classes, the columns of each in order, which rows match and which are marked
+pub record Choices : Type 0 where
+  pub columns : ℕ → List ClassColumn
+  pub is_class : ℕ → Bool
+  pub matches : ℕ → ForeignKey → ℕ → ℕ → Bool
+  pub violated : ℕ → ℕ → Bool
+
+abbrev pub key_view : Choices → Data → ℕ → ForeignKey → KeyView
+key_view choices D t key = record {
+  columns = map (name_at (table_at D.tables t).columns) key.columns;
+  target = key.target;
+  matches = choices.matches t key;
+}
+
+abbrev pub cell_view : Data → ℕ → ℕ → Name → Option KindText
+cell_view D t i x = option_map value_text (slice_index_or (row_at (rows_at D.rows t) i) (column_place (table_at D.tables t).columns x) None)
+
+abbrev pub table_view : Choices → Data → ℕ → TableView
+table_view choices D t = record {
+  name = (table_at D.tables t).name;
+  columns = choices.columns t;
+  count = length (rows_at D.rows t);
+  cell = cell_view D t;
+  keys = map (key_view choices D t) (table_at D.tables t).foreign;
+  violated = choices.violated t;
+  is_class = choices.is_class t;
+}
+
+abbrev pub views_of : Choices → Data → Views
+views_of choices D = record { count = length D.tables; view = table_view choices D }
+
+some_is : {X : Type 0} (x y : X) → Some x ≡ Some y → x ≡ y
+some_is x y e = cc
+
+value_of_cell : (c : Column) (cell : Cell) (v : KindText) → IsCellOf c cell → option_map value_text cell ≡ Some v → v.kind ≡ c.kind
+value_of_cell c None v is e = absurd (cc)
+value_of_cell c (Some w) v is e = let same : value_text w ≡ v = some_is (value_text w) v e in sym (ap (λ (x : KindText). x.kind) same) ∙ is.0
+
+one_name : (columns : List Column) (p : ℕ) (places : List ℕ) (n : Name) → map (name_at columns) (p ∷ places) ≡ n ∷ [] → places ≡ []
+one_name columns p [] n e = refl
+one_name columns p (q ∷ places) n e = absurd (let f : name_at columns p ∷ name_at columns q ∷ map (name_at columns) places ≡ n ∷ [] = e in cc)
+
+module _ (name : GraphName) (base : List ℕ) (D : Data) (database : IsDatabase D) (own : RowsHaveOwnNodes base D) (choices : Choices)
+    (sorted : (t : ℕ) → t < length D.tables → SortedColumns (table_at D.tables t) (choices.columns t))
+    (tells_class : (t : ℕ) → t < length D.tables → (choices.is_class t ≡ true) ↔ CountsAsClass name D.tables t) where
+  abbrev V : Views
+  V = views_of choices D
+
+  pub is_table : (t : ℕ) → t < length D.tables → IsTable D.tables (table_at D.tables t)
+  is_table t below = database.schema.each (table_at D.tables t) (item_within D.tables t no_table below)
+
+  are_rows : (t : ℕ) → t < length D.tables → AreRowsOf (table_at D.tables t).columns (rows_at D.rows t)
+  are_rows t below = zipped_at (λ (table : Table) (rows : List Row). AreRowsOf table.columns rows) D.tables D.rows t no_table [] database.rows below
+
+  pub is_row : (t i : ℕ) → t < length D.tables → i < length (rows_at D.rows t) → IsRowOf (table_at D.tables t).columns (row_at (rows_at D.rows t) i)
+  is_row t i in_table in_rows = All-get_or (IsRowOf (table_at D.tables t).columns) (rows_at D.rows t) i [] in_rows (are_rows t in_table).each
+
+  pub one_table : (t u : ℕ) → t < length D.tables → u < length D.tables → (table_at D.tables t).name ≡ (table_at D.tables u).name → t ≡ u
+  one_table t u in_t in_u e =
+      one_index (map (λ (table : Table). table.name) D.tables) (table_at D.tables t).name t u database.schema.names
+      (slice_get-map (λ (table : Table). table.name) D.tables t ∙ ap (option_map (λ (table : Table). table.name)) (slice_get-get_or D.tables t no_table in_t))
+      (slice_get-map (λ (table : Table). table.name) D.tables u ∙ ap (option_map (λ (table : Table). table.name)) (slice_get-get_or D.tables u no_table in_u) ∙ ap Some (sym e))
+
+  pub key_from : (t : ℕ) (y : KeyView) → IsIn y (table_view choices D t).keys → (key : ForeignKey) × IsIn key (table_at D.tables t).foreign × (key_view choices D t key ≡ y)
+  key_from t y h = IsIn-map (key_view choices D t) y (table_at D.tables t).foreign h
+
+  lawful_key : (t : ℕ) (key : ForeignKey) → t < length D.tables → IsIn key (table_at D.tables t).foreign → IsForeignKey D.tables (table_at D.tables t) key
+  lawful_key t key in_t h = (is_table t in_t).foreign key h
+
+  kinds : (k i : ℕ) (d : ClassColumn) (v : KindText) → IsClassAt V k → i < length (rows_at D.rows k) → IsIn d (choices.columns k) → cell_view D k i d.name ≡ Some v → v.kind ≡ d.kind
+  kinds k i d v c below h e =
+      let s = (sorted k c.0).only d h in
+      let table = table_at D.tables k in
+      let place : column_place table.columns d.name ≡ s.0 = ap (λ (x : ClassColumn). column_place table.columns x.name) (sym s.3) ∙ place_is table.columns s.0 s.1 (is_table k c.0).distinct s.2 in
+      let within : s.0 < length table.columns = slice_get_within table.columns s.0 s.1 s.2 in
+      let cell : IsCellOf (get_or table.columns s.0 s.1) (slice_index_or (row_at (rows_at D.rows k) i) s.0 None) = zipped_at IsCellOf table.columns (row_at (rows_at D.rows k) i) s.0 s.1 None (is_row k i c.0 below) within in
+      let cell' : IsCellOf s.1 (slice_index_or (row_at (rows_at D.rows k) i) s.0 None) = subst (λ (x : Column). IsCellOf x (slice_index_or (row_at (rows_at D.rows k) i) s.0 None)) (get_or_from_slice_get table.columns s.0 s.1 s.1 s.2) cell in
+      value_of_cell s.1 (slice_index_or (row_at (rows_at D.rows k) i) s.0 None) v cell' (ap (λ p. option_map value_text (slice_index_or (row_at (rows_at D.rows k) i) p None)) (sym place) ∙ e)
+      ∙ ap (λ (x : ClassColumn). x.kind) s.3
+
+  keys : (k : ℕ) → IsClassAt V k → NoRepeats (map (λ (y : KeyView). y.columns) (table_view choices D k).keys)
+  keys k c =
+      subst NoRepeats (sym (map_map (key_view choices D k) (λ (y : KeyView). y.columns) (table_at D.tables k).foreign))
+      (once_by (λ (key : ForeignKey). key.columns) (λ (key : ForeignKey). map (name_at (table_at D.tables k).columns) key.columns) (table_at D.tables k).foreign
+      (λ x y h g e. one_list (table_at D.tables k).columns x.columns y.columns (is_table k c.0).distinct (lawful_key k x c.0 h).columns.within (lawful_key k y c.0 g).columns.within e)
+      (is_table k c.0).apart)
+    where
+      once_by : {X Y Z : Type 0} (f : X → Y) (g : X → Z) (xs : List X) → ((x y : X) → IsIn x xs → IsIn y xs → g x ≡ g y → f x ≡ f y) → NoRepeats (map f xs) → NoRepeats (map g xs)
+      once_by f g [] h d = tt
+      once_by f g (x ∷ xs) h d = (
+        (λ i. let r = IsIn-map g (g x) xs i in d.0 (subst (λ y. IsIn y (map f xs)) (h r.0 x (inr r.1) (inl refl) r.2) (map-IsIn f r.0 xs r.1))),
+        once_by f g xs (λ x y a b. h x y (inr a) (inr b)) d.1,
+      )
+
+  -- the target of a key is no relation
+  pub target_is_class : (t : ℕ) (key : ForeignKey) → t < length D.tables → IsIn key (table_at D.tables t).foreign → IsClassAt V key.target
+  target_is_class t key in_t h =
+      let below = (lawful_key t key in_t h).target in
+      (below, (tells_class key.target below).1 (counts mode))
+    where
+      counts : (m : GraphName) → CountsAsClass m D.tables key.target
+      counts MapKeys = λ sides r. r
+      counts Map = λ sides r. r.no_target
+          (any_from_item (λ (other : Table). Any (λ (k : ForeignKey). k.target ≡ key.target) other.foreign) (table_at D.tables t) D.tables (item_within D.tables t no_table in_t)
+          (any_from_item (λ (k : ForeignKey). k.target ≡ key.target) key (table_at D.tables t).foreign h refl))
+
+  some_place : (places : List ℕ) → 0 < length places → (p : ℕ) × IsIn p places
+  some_place [] h = absurd (omega arith)
+  some_place (p ∷ places) h = (p, inl refl)
+
+  no_clash : (k l : ℕ) (d : ClassColumn) (key : ForeignKey) → k < length D.tables → l < length D.tables → IsIn d (choices.columns k) → IsIn key (table_at D.tables l).foreign
+      → property_iri base (table_at D.tables k).name d.name ≢ link_iri base (key_link V l (key_view choices D l key))
+  no_clash k l d key in_k in_l h g = go key.columns refl
+    where
+      names : List ℕ → List Name
+      names places = map (name_at (table_at D.tables l).columns) places
+
+      clash : (p : ℕ) (places : List ℕ) → key.columns ≡ p ∷ places → property_iri base (table_at D.tables k).name d.name ≢ ref_iri base (record { table = (table_at D.tables l).name; columns = map (name_at (table_at D.tables l).columns) (p ∷ places) })
+      clash p places is e =
+          let c = apart.column_ref (column_named (table_at D.tables k).name d.name) (record { table = (table_at D.tables l).name; columns = map (name_at (table_at D.tables l).columns) (p ∷ places) }) (λ q. cc) e in
+          let one : k ≡ l = one_table k l in_k in_l (ap (λ (x : ColumnName). x.table) c.2) in
+          let alone : places ≡ [] = one_name (table_at D.tables l).columns p places c.0 c.1 in
+          let first : name_at (table_at D.tables l).columns p ≡ c.0 = (let f : map (name_at (table_at D.tables l).columns) (p ∷ places) ≡ c.0 ∷ [] = c.1 in cc) in
+          let key_is : key.columns ≡ p ∷ [] = is ∙ ap (λ ps. p ∷ ps) alone in
+          let in_place : p < length (table_at D.tables l).columns = (lawful_key l key in_l g).columns.within p (subst (λ ps. IsIn p ps) (sym key_is) (inl refl)) in
+          let col = column_there (table_at D.tables l).columns p in_place in
+          let s = (sorted k in_k).only d h in
+          let s' : slice_get (table_at D.tables l).columns s.0 ≡ Some s.1 = subst (λ t. slice_get (table_at D.tables t).columns s.0 ≡ Some s.1) one s.2 in
+          let name : s.1.name ≡ codes "ref-" ++ col.0.name =
+          ap (λ (x : ClassColumn). x.name) s.3 ∙ ap (λ (x : ColumnName). x.column) c.2 ∙ ap (λ n. codes "ref-" ++ n) (sym first ∙ name_at_is (table_at D.tables l).columns p col.0 col.1) in
+          (is_table l in_l).no_clash key p col.0 g key_is col.1
+          (any_from_item (λ (x : Column). x.name ≡ codes "ref-" ++ col.0.name) s.1 (table_at D.tables l).columns (item_at_index s.1 (table_at D.tables l).columns s.0 s') name)
+
+      go : (places : List ℕ) → key.columns ≡ places → property_iri base (table_at D.tables k).name d.name ≢ ref_link_iri base (table_at D.tables l).name (map (name_at (table_at D.tables l).columns) key.columns)
+      go [] is = let some = (lawful_key l key in_l g).columns.some in absurd (let e : length key.columns ≡ 0 = ap length is in omega arith)
+      go (p ∷ places) is = λ e. clash p places is (e ∙ ap (λ ps. ref_link_iri base (table_at D.tables l).name (map (name_at (table_at D.tables l).columns) ps)) is)
+
+  some_column : (k : ℕ) → IsClassAt V k → (d : ClassColumn) × IsIn d (choices.columns k)
+  some_column k c = let col = column_there (table_at D.tables k).columns 0 (is_table k c.0).some_column in (class_column col.0, (sorted k c.0).all 0 col.0 col.1)
+
+  pub key_columns : (k : ℕ) (key : ForeignKey) (c : Name) → k < length D.tables → IsIn key (table_at D.tables k).foreign → IsIn c (map (name_at (table_at D.tables k).columns) key.columns)
+      → (d : ClassColumn) × IsIn d (choices.columns k) × (d.name ≡ c)
+  key_columns k key c in_k h i =
+      let p = IsIn-map (name_at (table_at D.tables k).columns) c key.columns i in
+      let col = column_there (table_at D.tables k).columns p.0 ((lawful_key k key in_k h).columns.within p.0 p.1) in
+      (class_column col.0, (sorted k in_k).all p.0 col.0 col.1, sym (name_at_is (table_at D.tables k).columns p.0 col.0 col.1) ∙ p.2)
+
+  pub good_data : GoodData base (row_node base D) V
+  good_data = record {
+    nodes = λ k i l j c in_i e in_j same. own.apart k i l j (record { table = c.0; row = in_i }) (record { table = e.0; row = in_j }) same;
+    names = λ k l c e same. one_table k l c.0 e.0 same;
+    columns = λ k c. rising-NoRepeats IsBefore before_one_way (map (λ (d : ClassColumn). d.name) (choices.columns k)) (sorted k c.0).rising;
+    some_column = some_column;
+    kinds = kinds;
+    keys = keys;
+    targets = λ k y c h. let key = key_from k y h in subst (λ (z : KeyView). IsClassAt V z.target) key.2 (target_is_class k key.0 c.0 key.1);
+    some_key_column = λ k y c h.
+        let key = key_from k y h in
+        let p = some_place key.0.columns (lawful_key k key.0 c.0 key.1).columns.some in
+        subst (λ (z : KeyView). (n : Name) × IsIn n z.columns) key.2 (name_at (table_at D.tables k).columns p.0, map-IsIn (name_at (table_at D.tables k).columns) p.0 key.0.columns p.1);
+    key_columns_distinct = λ k y c h.
+        let key = key_from k y h in
+        let lawful = (lawful_key k key.0 c.0 key.1).columns in
+        subst (λ (z : KeyView). NoRepeats z.columns) key.2
+        (NoRepeats-map (name_at (table_at D.tables k).columns) key.0.columns (λ p q i j e. one_place (table_at D.tables k).columns p q (is_table k c.0).distinct (lawful.within p i) (lawful.within q j) e) lawful.once);
+    key_columns = λ k y x c h i.
+        let key = key_from k y h in
+        key_columns k key.0 x c.0 key.1 (subst (λ (z : KeyView). IsIn x z.columns) (sym key.2) i);
+    no_clash = λ k l d y c e h i.
+        let key = key_from l y i in
+        subst (λ (z : KeyView). property_iri base (table_at D.tables k).name d.name ≢ link_iri base (key_link V l z)) key.2 (no_clash k l d key.0 c.0 e.0 h key.1);
+  }
