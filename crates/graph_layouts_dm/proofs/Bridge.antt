@@ -26,10 +26,10 @@ use Rattle.keys_dm.specs.KeyCells.{row_at}
 use Rattle.layouts_dm.specs.LayoutTables.{value_text, class_column}
 use Rattle.graphs_dm.specs.Nodes.{row_node}
 use Rattle.graphs_dm.specs.OwnNodes.{RowsHaveOwnNodes}
-use Rattle.layouts_dm.specs.Layouts.{ClassColumn, column_named, property_iri}
+use Rattle.layouts_dm.specs.Layouts.{ClassColumn, column_named, property_iri, IsCanonical, IsGoodName}
 use Rattle.graphs_dm.specs.Relations.{CountsAsClass}
 use Rattle.graphs_dm.specs.declared.graph_name.GraphName.{GraphName}
-use Rattle.graphs_dm.specs.declared.graph_name.GraphName.TheVariants.{MapKeys, Map}
+use Rattle.graphs_dm.specs.declared.graph_name.GraphName.TheVariants.{MapKeys, Map, Direct}
 use Rattle.graph_layouts_dm.proofs.Views.{GoodData, IsClassAt, KeyView, TableView, Views, key_link}
 use Rattle.graph_layouts_dm.proofs.Columns.{column_there, name_at_is, one_list, one_place, place_is}
 use Rattle.graph_layouts_dm.proofs.MapStands.{map_map}
@@ -75,17 +75,15 @@ views_of choices D = record { count = length D.tables; view = table_view choices
 some_is : {X : Type 0} (x y : X) → Some x ≡ Some y → x ≡ y
 some_is x y e = cc
 
-value_of_cell : (c : Column) (cell : Cell) (v : KindText) → IsCellOf c cell → option_map value_text cell ≡ Some v → v.kind ≡ c.kind
+value_of_cell : (c : Column) (cell : Cell) (v : KindText) → IsCellOf c cell → option_map value_text cell ≡ Some v → (v.kind ≡ c.kind) × IsCanonical v
 value_of_cell c None v is e = absurd (cc)
-value_of_cell c (Some w) v is e = let same : value_text w ≡ v = some_is (value_text w) v e in sym (ap (λ (x : KindText). x.kind) same) ∙ is.0
+value_of_cell c (Some w) v is e =
+    let same : value_text w ≡ v = some_is (value_text w) v e in
+    (sym (ap (λ (x : KindText). x.kind) same) ∙ is.0, subst IsCanonical same (w, is.1, refl, refl))
 
-one_name : (columns : List Column) (p : ℕ) (places : List ℕ) (n : Name) → map (name_at columns) (p ∷ places) ≡ n ∷ [] → places ≡ []
-one_name columns p [] n e = refl
-one_name columns p (q ∷ places) n e = absurd (let f : name_at columns p ∷ name_at columns q ∷ map (name_at columns) places ≡ n ∷ [] = e in cc)
-
-module _ (name : GraphName) (base : List ℕ) (D : Data) (database : IsDatabase D) (own : RowsHaveOwnNodes base D) (choices : Choices)
+module _ (graph : GraphName) (base : List ℕ) (D : Data) (database : IsDatabase D) (own : RowsHaveOwnNodes base D) (choices : Choices)
     (sorted : (t : ℕ) → t < length D.tables → SortedColumns (table_at D.tables t) (choices.columns t))
-    (tells_class : (t : ℕ) → t < length D.tables → (choices.is_class t ≡ true) ↔ CountsAsClass name D.tables t) where
+    (tells_class : (t : ℕ) → t < length D.tables → (choices.is_class t ≡ true) ↔ CountsAsClass graph D.tables t) where
   abbrev V : Views
   V = views_of choices D
 
@@ -110,16 +108,16 @@ module _ (name : GraphName) (base : List ℕ) (D : Data) (database : IsDatabase 
   lawful_key : (t : ℕ) (key : ForeignKey) → t < length D.tables → IsIn key (table_at D.tables t).foreign → IsForeignKey D.tables (table_at D.tables t) key
   lawful_key t key in_t h = (is_table t in_t).foreign key h
 
-  kinds : (k i : ℕ) (d : ClassColumn) (v : KindText) → IsClassAt V k → i < length (rows_at D.rows k) → IsIn d (choices.columns k) → cell_view D k i d.name ≡ Some v → v.kind ≡ d.kind
-  kinds k i d v c below h e =
+  cells : (k i : ℕ) (d : ClassColumn) (v : KindText) → IsClassAt V k → i < length (rows_at D.rows k) → IsIn d (choices.columns k) → cell_view D k i d.name ≡ Some v → (v.kind ≡ d.kind) × IsCanonical v
+  cells k i d v c below h e =
       let s = (sorted k c.0).only d h in
       let table = table_at D.tables k in
       let place : column_place table.columns d.name ≡ s.0 = ap (λ (x : ClassColumn). column_place table.columns x.name) (sym s.3) ∙ place_is table.columns s.0 s.1 (is_table k c.0).distinct s.2 in
       let within : s.0 < length table.columns = slice_get_within table.columns s.0 s.1 s.2 in
       let cell : IsCellOf (get_or table.columns s.0 s.1) (slice_index_or (row_at (rows_at D.rows k) i) s.0 None) = zipped_at IsCellOf table.columns (row_at (rows_at D.rows k) i) s.0 s.1 None (is_row k i c.0 below) within in
       let cell' : IsCellOf s.1 (slice_index_or (row_at (rows_at D.rows k) i) s.0 None) = subst (λ (x : Column). IsCellOf x (slice_index_or (row_at (rows_at D.rows k) i) s.0 None)) (get_or_from_slice_get table.columns s.0 s.1 s.1 s.2) cell in
-      value_of_cell s.1 (slice_index_or (row_at (rows_at D.rows k) i) s.0 None) v cell' (ap (λ p. option_map value_text (slice_index_or (row_at (rows_at D.rows k) i) p None)) (sym place) ∙ e)
-      ∙ ap (λ (x : ClassColumn). x.kind) s.3
+      let is = value_of_cell s.1 (slice_index_or (row_at (rows_at D.rows k) i) s.0 None) v cell' (ap (λ p. option_map value_text (slice_index_or (row_at (rows_at D.rows k) i) p None)) (sym place) ∙ e) in
+      (is.0 ∙ ap (λ (x : ClassColumn). x.kind) s.3, is.1)
 
   keys : (k : ℕ) → IsClassAt V k → NoRepeats (map (λ (y : KeyView). y.columns) (table_view choices D k).keys)
   keys k c =
@@ -139,9 +137,10 @@ module _ (name : GraphName) (base : List ℕ) (D : Data) (database : IsDatabase 
   pub target_is_class : (t : ℕ) (key : ForeignKey) → t < length D.tables → IsIn key (table_at D.tables t).foreign → IsClassAt V key.target
   target_is_class t key in_t h =
       let below = (lawful_key t key in_t h).target in
-      (below, (tells_class key.target below).1 (counts mode))
+      (below, (tells_class key.target below).1 (counts graph))
     where
       counts : (m : GraphName) → CountsAsClass m D.tables key.target
+      counts Direct = λ sides r. r
       counts MapKeys = λ sides r. r
       counts Map = λ sides r. r.no_target
           (any_from_item (λ (other : Table). Any (λ (k : ForeignKey). k.target ≡ key.target) other.foreign) (table_at D.tables t) D.tables (item_within D.tables t no_table in_t)
@@ -151,32 +150,27 @@ module _ (name : GraphName) (base : List ℕ) (D : Data) (database : IsDatabase 
   some_place [] h = absurd (omega arith)
   some_place (p ∷ places) h = (p, inl refl)
 
-  no_clash : (k l : ℕ) (d : ClassColumn) (key : ForeignKey) → k < length D.tables → l < length D.tables → IsIn d (choices.columns k) → IsIn key (table_at D.tables l).foreign
-      → property_iri base (table_at D.tables k).name d.name ≢ link_iri base (key_link V l (key_view choices D l key))
-  no_clash k l d key in_k in_l h g = go key.columns refl
+  one_place_of : (columns : List Column) (places : List ℕ) (x : Name) → map (name_at columns) places ≡ x ∷ [] → (p : ℕ) × (places ≡ p ∷ []) × (name_at columns p ≡ x)
+  one_place_of columns [] x e = absurd (cc)
+  one_place_of columns (p ∷ []) x e = (p, refl, heads (name_at columns p) x e)
     where
-      names : List ℕ → List Name
-      names places = map (name_at (table_at D.tables l).columns) places
+      heads : (a b : Name) → a ∷ [] ≡ b ∷ [] → a ≡ b
+      heads a b f = cc
+  one_place_of columns (p ∷ q ∷ places) x e = absurd (let f : name_at columns p ∷ name_at columns q ∷ map (name_at columns) places ≡ x ∷ [] = e in cc)
 
-      clash : (p : ℕ) (places : List ℕ) → key.columns ≡ p ∷ places → property_iri base (table_at D.tables k).name d.name ≢ ref_iri base (record { table = (table_at D.tables l).name; columns = map (name_at (table_at D.tables l).columns) (p ∷ places) })
-      clash p places is e =
-          let c = apart.column_ref (column_named (table_at D.tables k).name d.name) (record { table = (table_at D.tables l).name; columns = map (name_at (table_at D.tables l).columns) (p ∷ places) }) (λ q. cc) e in
-          let one : k ≡ l = one_table k l in_k in_l (ap (λ (x : ColumnName). x.table) c.2) in
-          let alone : places ≡ [] = one_name (table_at D.tables l).columns p places c.0 c.1 in
-          let first : name_at (table_at D.tables l).columns p ≡ c.0 = (let f : map (name_at (table_at D.tables l).columns) (p ∷ places) ≡ c.0 ∷ [] = c.1 in cc) in
-          let key_is : key.columns ≡ p ∷ [] = is ∙ ap (λ ps. p ∷ ps) alone in
-          let in_place : p < length (table_at D.tables l).columns = (lawful_key l key in_l g).columns.within p (subst (λ ps. IsIn p ps) (sym key_is) (inl refl)) in
-          let col = column_there (table_at D.tables l).columns p in_place in
-          let s = (sorted k in_k).only d h in
-          let s' : slice_get (table_at D.tables l).columns s.0 ≡ Some s.1 = subst (λ t. slice_get (table_at D.tables t).columns s.0 ≡ Some s.1) one s.2 in
-          let name : s.1.name ≡ codes "ref-" ++ col.0.name =
-          ap (λ (x : ClassColumn). x.name) s.3 ∙ ap (λ (x : ColumnName). x.column) c.2 ∙ ap (λ n. codes "ref-" ++ n) (sym first ∙ name_at_is (table_at D.tables l).columns p col.0 col.1) in
-          (is_table l in_l).no_clash key p col.0 g key_is col.1
-          (any_from_item (λ (x : Column). x.name ≡ codes "ref-" ++ col.0.name) s.1 (table_at D.tables l).columns (item_at_index s.1 (table_at D.tables l).columns s.0 s') name)
-
-      go : (places : List ℕ) → key.columns ≡ places → property_iri base (table_at D.tables k).name d.name ≢ ref_link_iri base (table_at D.tables l).name (map (name_at (table_at D.tables l).columns) key.columns)
-      go [] is = let some = (lawful_key l key in_l g).columns.some in absurd (let e : length key.columns ≡ 0 = ap length is in omega arith)
-      go (p ∷ places) is = λ e. clash p places is (e ∙ ap (λ ps. ref_link_iri base (table_at D.tables l).name (map (name_at (table_at D.tables l).columns) ps)) is)
+  -- no column `ref-x` stands beside a key on x alone
+  no_clash : (k : ℕ) (key : ForeignKey) (x : Name) (d : ClassColumn) → k < length D.tables → IsIn key (table_at D.tables k).foreign → map (name_at (table_at D.tables k).columns) key.columns ≡ x ∷ []
+      → IsIn d (choices.columns k) → d.name ≢ codes "ref-" ++ x
+  no_clash k key x d below h e i same =
+      let table = table_at D.tables k in
+      let p = one_place_of table.columns key.columns x e in
+      let in_place : p.0 < length table.columns = (lawful_key k key below h).columns.within p.0 (subst (λ ps. IsIn p.0 ps) (sym p.1) (inl refl)) in
+      let col = column_there table.columns p.0 in_place in
+      let named : col.0.name ≡ x = sym (name_at_is table.columns p.0 col.0 col.1) ∙ p.2 in
+      let s = (sorted k below).only d i in
+      let name : s.1.name ≡ codes "ref-" ++ col.0.name = ap (λ (y : ClassColumn). y.name) s.3 ∙ same ∙ ap (λ n. codes "ref-" ++ n) (sym named) in
+      (is_table k below).no_clash key p.0 col.0 h p.1 col.1
+      (any_from_item (λ (y : Column). y.name ≡ codes "ref-" ++ col.0.name) s.1 table.columns (item_at_index s.1 table.columns s.0 s.2) name)
 
   some_column : (k : ℕ) → IsClassAt V k → (d : ClassColumn) × IsIn d (choices.columns k)
   some_column k c = let col = column_there (table_at D.tables k).columns 0 (is_table k c.0).some_column in (class_column col.0, (sorted k c.0).all 0 col.0 col.1)
@@ -188,13 +182,15 @@ module _ (name : GraphName) (base : List ℕ) (D : Data) (database : IsDatabase 
       let col = column_there (table_at D.tables k).columns p.0 ((lawful_key k key in_k h).columns.within p.0 p.1) in
       (class_column col.0, (sorted k in_k).all p.0 col.0 col.1, sym (name_at_is (table_at D.tables k).columns p.0 col.0 col.1) ∙ p.2)
 
-  pub good_data : GoodData base (row_node base D) V
+  pub good_data : GoodData (row_node base D) V
   good_data = record {
     nodes = λ k i l j c in_i e in_j same. own.apart k i l j (record { table = c.0; row = in_i }) (record { table = e.0; row = in_j }) same;
     names = λ k l c e same. one_table k l c.0 e.0 same;
     columns = λ k c. rising-NoRepeats IsBefore before_one_way (map (λ (d : ClassColumn). d.name) (choices.columns k)) (sorted k c.0).rising;
     some_column = some_column;
-    kinds = kinds;
+    good_name = λ k c. (is_table k c.0).name;
+    good_columns = λ k d c i. let s = (sorted k c.0).only d i in subst (λ (e : ClassColumn). IsGoodName e.name) s.3 ((is_table k c.0).column_names s.1 (item_at_index s.1 (table_at D.tables k).columns s.0 s.2));
+    cells = cells;
     keys = keys;
     targets = λ k y c h. let key = key_from k y h in subst (λ (z : KeyView). IsClassAt V z.target) key.2 (target_is_class k key.0 c.0 key.1);
     some_key_column = λ k y c h.
@@ -209,7 +205,7 @@ module _ (name : GraphName) (base : List ℕ) (D : Data) (database : IsDatabase 
     key_columns = λ k y x c h i.
         let key = key_from k y h in
         key_columns k key.0 x c.0 key.1 (subst (λ (z : KeyView). IsIn x z.columns) (sym key.2) i);
-    no_clash = λ k l d y c e h i.
-        let key = key_from l y i in
-        subst (λ (z : KeyView). property_iri base (table_at D.tables k).name d.name ≢ link_iri base (key_link V l z)) key.2 (no_clash k l d key.0 c.0 e.0 h key.1);
+    no_clash = λ k y x d c h e i.
+        let key = key_from k y h in
+        no_clash k key.0 x d c.0 key.1 (subst (λ (z : KeyView). z.columns ≡ x ∷ []) (sym key.2) e) i;
   }

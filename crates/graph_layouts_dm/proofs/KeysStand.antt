@@ -24,11 +24,10 @@ use Rattle.graphs_dm.specs.declared.graph_name.GraphName.TheVariants.{MapKeys}
 use Rattle.graph_layouts_dm.proofs.Views.{IsPlainClass, IsPlainRel, MapFact, Plain, Views}
 use Rattle.graph_layouts_dm.proofs.Bridge.{Choices, SortedColumns, good_data, is_table, target_is_class, views_of}
 use Rattle.graphs_dm.proofs.Decisions.{flag, flag_is, told_match, told_violates}
-use Rattle.graph_layouts_dm.proofs.GoodNames.{good_names}
 use Rattle.graph_layouts_dm.proofs.MapFacts.{said, says}
 use Rattle.graph_layouts_dm.proofs.MapStands.{graph_stands_for_plain, map_map}
 use Rattle.layouts_dm.proofs.Unique.{before_one_way}
-use Rattle.graph_layouts_dm.proofs.Plains.{is_plain_class, plain_at, plain_table, sorted_columns, zipped_back}
+use Rattle.graph_layouts_dm.proofs.Plains.{is_plain_class, plain_at, plain_table, sorted_columns, zipped_back, of_shape}
 use Rattle.value_dm.specs.declared.kind.Kind.TheVariants as kind
 
 pub rising_by : (xs : List ClassColumn) → IsRising IsBefore (map (λ (d : ClassColumn). d.name) xs) → IsRising (λ (x y : ClassColumn). IsBefore x.name y.name) xs
@@ -102,25 +101,24 @@ module _ (base : List ℕ) (D : Data) (database : IsDatabase D) (own : RowsHaveO
   to_views : (f : Fact) → IsFactOf MapKeys base D f → MapFact base (row_node base D) V [] f
   to_views f h =
       says MapKeys base D choices (is_table MapKeys base D database own choices (sorted D database plain is_plain) all_classes) (sorted D database plain is_plain) all_classes
-      (λ t i j key has. flag_is (told_match D t i j key)) (λ t i has. ((λ e. let v = (flag_is (told_violates D t i)).0 e in (refl, v.0, v.1)), (λ v. (flag_is (told_violates D t i)).1 (v.1, v.2))))
-      (λ t m sides r. r) (target_is_class MapKeys base D database own choices (sorted D database plain is_plain) all_classes)
+      (λ t i j key has. flag_is (told_match D t i j key)) (λ t i has. ((λ e. let v = (flag_is (told_violates D t i)).0 e in (tt, v.0, v.1)), (λ v. (flag_is (told_violates D t i)).1 (v.1, v.2))))
+      tt (λ t m sides r. r) (target_is_class MapKeys base D database own choices (sorted D database plain is_plain) all_classes)
       (record { row = λ t key i. 0; kind = λ key. kind.Text }) [] (λ t sides below r. absurd r) (λ r i. absurd i) (λ t i j sides key has r which. absurd r) f h
 
   from_views : (f : Fact) → MapFact base (row_node base D) V [] f → IsFactOf MapKeys base D f
   from_views f h =
       said MapKeys base D choices (is_table MapKeys base D database own choices (sorted D database plain is_plain) all_classes) (sorted D database plain is_plain) all_classes
-      (λ t i j key has. flag_is (told_match D t i j key)) (λ t i has. ((λ e. let v = (flag_is (told_violates D t i)).0 e in (refl, v.0, v.1)), (λ v. (flag_is (told_violates D t i)).1 (v.1, v.2))))
-      (λ t m sides r. r) (target_is_class MapKeys base D database own choices (sorted D database plain is_plain) all_classes)
+      (λ t i j key has. flag_is (told_match D t i j key)) (λ t i has. ((λ e. let v = (flag_is (told_violates D t i)).0 e in (tt, v.0, v.1)), (λ v. (flag_is (told_violates D t i)).1 (v.1, v.2))))
+      tt (λ t m sides r. r) (target_is_class MapKeys base D database own choices (sorted D database plain is_plain) all_classes)
       (record { row = λ t key i. 0; kind = λ key. kind.Text }) [] (λ t sides below r. absurd r) (λ r i. absurd i) (λ t i j sides key has r which. absurd r) f h
 
   -- the map-keys graph stands for the plain tables, whether or not keys are kept
-  pub keys_stand : (G : List Statement) → AreTriplesOf MapKeys base D G → Stands base G plain
+  pub keys_stand : (G : List Statement) → AreTriplesOf MapKeys base D G → StandsFor base G plain
   keys_stand G are =
-      graph_stands_for_plain base IsBefore is_before (row_node base D) V [] (good_data MapKeys base D database own choices (sorted D database plain is_plain) all_classes)
+      graph_stands_for_plain base (row_node base D) V [] (good_data MapKeys base D database own choices (sorted D database plain is_plain) all_classes)
       (record { names = tt; each = λ r i. absurd i })
-      (good_names MapKeys base D database own choices (sorted D database plain is_plain) all_classes [] (λ r i. absurd i))
       (0, (database.schema.some, refl)) G
       (λ x. (
         (λ h. let f = are.only x h in (f.0, to_views f.0 f.1, f.2)),
-        (λ f. subst (λ (y : Statement). IsIn y G) (sym f.2) (are.all f.0 (from_views f.0 f.1))),
-      )) (map literal_table plain) plain_views
+        (λ f. are.all x (f.0, from_views f.0 f.1, f.2)),
+      )) plain (of_shape D database plain is_plain) plain_views

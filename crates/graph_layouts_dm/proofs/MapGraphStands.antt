@@ -34,13 +34,12 @@ use Rattle.graph_layouts_dm.proofs.Views.{IsClassAt, IsPlainClass, IsPlainRel, M
 use Rattle.graph_layouts_dm.proofs.Bridge.{Choices, cell_view, good_data, is_table, target_is_class, views_of}
 use Rattle.graph_layouts_dm.proofs.Columns.{column_there, name_at_is, place_is}
 use Rattle.graphs_dm.proofs.Decisions.{Told, flag, flag_is, told_match}
-use Rattle.graph_layouts_dm.proofs.GoodNames.{good_names}
 use Rattle.graph_layouts_dm.proofs.KeysStand.{columns_are, columns_of, rising_by, sorted}
 use Rattle.graph_layouts_dm.proofs.MapFacts.{relation_view, said, says}
 use Rattle.graph_layouts_dm.proofs.MapRelations.{Side, cell_is, ends_of, good_rels, kind_is, relation_from, relation_in, relations_of, side, target_is}
 use Rattle.graph_layouts_dm.proofs.MapStands.{graph_stands_for_plain, map_map, upto_agree}
 use Rattle.graph_layouts_dm.proofs.PlainRelations.{map_in_order, order_of, two_places}
-use Rattle.graph_layouts_dm.proofs.Plains.{column_at, is_plain_class, plain_at, plain_rows, plain_table, zipped, zipped_back}
+use Rattle.graph_layouts_dm.proofs.Plains.{column_at, is_plain_class, plain_at, plain_rows, plain_table, zipped, zipped_back, of_shape}
 use Rattle.graph_layouts_dm.proofs.RelationRows.{row_is}
 use Rattle.graphs_dm.proofs.RelationTests.{told_relation}
 
@@ -96,54 +95,19 @@ module _ (base : List ℕ) (D : Data) (database : IsDatabase D) (own : RowsHaveO
       let a = right_side t sides has.table is in
       subst (λ (k : ForeignKey). References D t i k j ↔ (j ≡ (ends_of D).row t k i)) (sym e) (row_is D kept matched t 1 sides (right_key D.tables t sides) is (inr refl) a.on a.among i j has)
 
-  not_keys : Map ≡ MapKeys → ⊥
-  not_keys e = absurd (cc)
-
   to_views : (f : Fact) → IsFactOf Map base D f → MapFact base (row_node base D) V R f
   to_views f h =
       says Map base D choices table_of (sorted D database plain is_plain) tells
-      (λ t i j key has. flag_is (told_match D t i j key)) (λ t i has. ((λ e. absurd (let g : false ≡ true = e in cc)), (λ v. absurd (not_keys v.0))))
-      (λ t m. absurd (not_keys m)) (target_is_class Map base D database own choices (sorted D database plain is_plain) tells)
+      (λ t i j key has. flag_is (told_match D t i j key)) (λ t i has. ((λ e. absurd (let g : false ≡ true = e in cc)), (λ v. absurd v.0)))
+      tt (λ t m. absurd m) (target_is_class Map base D database own choices (sorted D database plain is_plain) tells)
       (ends_of D) R (relation_in base D database own choices (sorted D database plain is_plain) tells kept matched) (relation_from base D database own choices (sorted D database plain is_plain) tells kept matched) rows_are f h
 
   from_views : (f : Fact) → MapFact base (row_node base D) V R f → IsFactOf Map base D f
   from_views f h =
       said Map base D choices table_of (sorted D database plain is_plain) tells
-      (λ t i j key has. flag_is (told_match D t i j key)) (λ t i has. ((λ e. absurd (let g : false ≡ true = e in cc)), (λ v. absurd (not_keys v.0))))
-      (λ t m. absurd (not_keys m)) (target_is_class Map base D database own choices (sorted D database plain is_plain) tells)
+      (λ t i j key has. flag_is (told_match D t i j key)) (λ t i has. ((λ e. absurd (let g : false ≡ true = e in cc)), (λ v. absurd v.0)))
+      tt (λ t m. absurd m) (target_is_class Map base D database own choices (sorted D database plain is_plain) tells)
       (ends_of D) R (relation_in base D database own choices (sorted D database plain is_plain) tells kept matched) (relation_from base D database own choices (sorted D database plain is_plain) tells kept matched) rows_are f h
-
-  -- ---- names
-
-  column_good : (t k : ℕ) (c : Column) → t < length D.tables → slice_get (table_at D.tables t).columns k ≡ Some c → IsGoodName c.name
-  column_good t k c below at = (table_of t below).column_names c (item_at_index c (table_at D.tables t).columns k at)
-
-  place_good : (t k : ℕ) → t < length D.tables → k < length (table_at D.tables t).columns → IsGoodName (name_at (table_at D.tables t).columns k)
-  place_good t k below within =
-      let c = column_there (table_at D.tables t).columns k within in
-      subst IsGoodName (sym (name_at_is (table_at D.tables t).columns k c.0 c.1)) (column_good t k c.0 below c.1)
-
-  target_good : (t place : ℕ) (sides : Binary) (key : ForeignKey) → t < length D.tables → IsBinaryRelation D.tables t sides → (place ≡ 0) ⊎ (place ≡ 1) → SideOf t place key → IsGoodName (target_name D.tables key)
-  target_good t place sides key below is which s =
-      subst IsGoodName (sym (target_is base D database own choices (sorted D database plain is_plain) tells kept matched t place sides key below is which s)) (column_good key.target s.place_of s.column s.target.0 s.at)
-
-  good_relation : (r : RelationView) → IsIn r R → IsGoodLink (rel_link r.name) × IsClassAt V r.left × IsClassAt V r.right
-  good_relation r i =
-      let f = relation_from base D database own choices (sorted D database plain is_plain) tells kept matched r i in
-      let a = left_side f.0 f.1 f.2 f.3 in
-      let b = right_side f.0 f.1 f.2 f.3 in
-      let two : length (table_at D.tables f.0).columns ≡ 2 = f.3.two_columns in
-      subst (λ (z : RelationView). IsGoodLink (rel_link z.name) × IsClassAt V z.left × IsClassAt V z.right) f.4 (
-        (
-          (table_of f.0 f.2).name,
-          place_good f.0 0 f.2 (omega arith),
-          target_good f.0 0 f.1 (left_key D.tables f.0 f.1) f.2 f.3 (inl refl) a,
-          place_good f.0 1 f.2 (omega arith),
-          target_good f.0 1 f.1 (right_key D.tables f.0 f.1) f.2 f.3 (inr refl) b,
-        ),
-        a.target,
-        b.target,
-      )
 
   -- ---- plain tables
 
@@ -226,13 +190,12 @@ module _ (base : List ℕ) (D : Data) (database : IsDatabase D) (own : RowsHaveO
   some_class (inr n) = (0, (database.schema.some, (tells 0 database.schema.some).1 (λ sides h. n (sides, h))))
 
   -- the map graph stands for the plain tables
-  pub map_stands : (G : List Statement) → AreTriplesOf Map base D G → Stands base G plain
+  pub map_stands : (G : List Statement) → AreTriplesOf Map base D G → StandsFor base G plain
   map_stands G are =
-      graph_stands_for_plain base IsBefore is_before (row_node base D) V R (good_data Map base D database own choices (sorted D database plain is_plain) tells)
+      graph_stands_for_plain base (row_node base D) V R (good_data Map base D database own choices (sorted D database plain is_plain) tells)
       (good_rels base D database own choices (sorted D database plain is_plain) tells kept matched)
-      (good_names Map base D database own choices (sorted D database plain is_plain) tells R good_relation)
       (some_class (told_relation D.tables 0)) G
       (λ x. (
         (λ h. let f = are.only x h in (f.0, to_views f.0 f.1, f.2)),
-        (λ f. subst (λ (y : Statement). IsIn y G) (sym f.2) (are.all f.0 (from_views f.0 f.1))),
-      )) (map literal_table plain) plain_views
+        (λ f. are.all x (f.0, from_views f.0 f.1, f.2)),
+      )) plain (of_shape D database plain is_plain) plain_views

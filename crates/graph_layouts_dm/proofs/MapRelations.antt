@@ -21,7 +21,7 @@ use Rattle.keys_dm.specs.KeyCells.{row_at}
 use Rattle.keys_dm.specs.Violations.{KeepsKeys}
 use Rattle.layouts_dm.specs.LayoutTables.{value_text, class_column}
 use Rattle.graphs_dm.specs.OwnNodes.{HasRow, RowsHaveOwnNodes}
-use Rattle.layouts_dm.specs.Layouts.{ClassColumn, column_named}
+use Rattle.layouts_dm.specs.Layouts.{ClassColumn, column_named, IsGoodName}
 use Rattle.graphs_dm.specs.Relations.{CountsAsClass, left_key, no_key, relation_name, right_key, target_name}
 use Rattle.graphs_dm.specs.declared.graph_name.GraphName.TheVariants.{Map}
 use Rattle.graph_layouts_dm.proofs.Views.{GoodRel, GoodRels, IsClassAt, RelationView, Views, upto}
@@ -136,7 +136,18 @@ module _ (base : List ℕ) (D : Data) (database : IsDatabase D) (own : RowsHaveO
         let v = some_value (slice_index_or (row_at (rows_at D.rows t) i) place None) (λ e. pair_cells D kept matched t i place sides has is which (inl e)) in
         (v.0, cell_is i has ∙ v.1)
 
-  good_relation : (t : ℕ) (sides : Binary) → t < length D.tables → IsBinaryRelation D.tables t sides → GoodRel base V (relation_view (ends_of D) D t sides)
+  column_good : (t k : ℕ) (c : Column) → t < length D.tables → slice_get (table_at D.tables t).columns k ≡ Some c → IsGoodName c.name
+  column_good t k c below at = (table_of t below).column_names c (item_at_index c (table_at D.tables t).columns k at)
+
+  place_good : (t k : ℕ) → t < length D.tables → k < length (table_at D.tables t).columns → IsGoodName (name_at (table_at D.tables t).columns k)
+  place_good t k below within =
+      let c = column_there (table_at D.tables t).columns k within in
+      subst IsGoodName (sym (name_at_is (table_at D.tables t).columns k c.0 c.1)) (column_good t k c.0 below c.1)
+
+  target_good : (t place : ℕ) (sides : Binary) (key : ForeignKey) → t < length D.tables → IsBinaryRelation D.tables t sides → (place ≡ 0) ⊎ (place ≡ 1) → Side t place key → IsGoodName (target_name D.tables key)
+  target_good t place sides key below is which s = subst IsGoodName (sym (target_is t place sides key below is which s)) (column_good key.target s.place_of s.column s.target.0 s.at)
+
+  good_relation : (t : ℕ) (sides : Binary) → t < length D.tables → IsBinaryRelation D.tables t sides → GoodRel V (relation_view (ends_of D) D t sides)
   good_relation t sides below is =
       let left = left_key D.tables t sides in
       let right = right_key D.tables t sides in
@@ -145,6 +156,7 @@ module _ (base : List ℕ) (D : Data) (database : IsDatabase D) (own : RowsHaveO
       let columns = (table_at D.tables t).columns in
       let two : length columns ≡ 2 = is.two_columns in
       record {
+        good = ((table_of t below).name, place_good t 0 below (omega arith), target_good t 0 sides left below is (inl refl) a, place_good t 1 below (omega arith), target_good t 1 sides right below is (inr refl) b);
         left = a.target;
         right = b.target;
         left_row = λ i h. row_below D kept matched t 0 sides left is (inl refl) a.on a.among i (record { table = below; row = h });
@@ -167,7 +179,6 @@ module _ (base : List ℕ) (D : Data) (database : IsDatabase D) (own : RowsHaveO
               | inr z ↦ subst (λ p. slice_index_or (row_at (rows_at D.rows t) i) p None ≡ slice_index_or (row_at (rows_at D.rows t) j) p None) (sym z)
                   (sym (same_cell t 1 sides right below is (inr refl) b i has_i) ∙ ap (λ r. slice_index_or (row_at (rows_at D.rows right.target) r) b.place_of None) same_right ∙ same_cell t 1 sides right below is (inr refl) b j has_j)
             ]);
-        no_clash = λ k d c h e. apart.column_rel (column_named (table_at D.tables k).name d.name) (relation_name D.tables t sides) e;
       }
 
   -- the relations are those that the tables tell
@@ -205,8 +216,8 @@ module _ (base : List ℕ) (D : Data) (database : IsDatabase D) (own : RowsHaveO
       named t x (inl s) (inr h) = absurd h
       named t x (inr n) h = absurd h
 
-  pub good_rels : GoodRels base V (relations_of D)
+  pub good_rels : GoodRels V (relations_of D)
   good_rels = record {
     names = names;
-    each = λ r i. let f = relation_from r i in subst (GoodRel base V) f.4 (good_relation f.0 f.1 f.2 f.3);
+    each = λ r i. let f = relation_from r i in subst (GoodRel V) f.4 (good_relation f.0 f.1 f.2 f.3);
   }

@@ -2,12 +2,14 @@
 use Rattle.std.proofs.Common.{◌≡◌, ℕ, zero, suc, ◌<◌, refl, sym, ap, ◌∙◌, subst, inl, inr, ◌⊎◌, List, [], ◌∷◌, ◌++◌, Some, map, Bool, true, false, cond, arith}
 use Rattle.std.specs.Prelude.{◌≢◌, ◌↔◌}
 use Rattle.std.specs.List.Sorted.{IsPermutation}
-use Rattle.layouts_dm.specs.Layouts.{Class, ClassColumn, GoodLink, GoodReference, GoodRelation, HasColumn, HasGoodNames, HasNode, Part, WellFormed, property_iri}
-use Rattle.facts_dm.specs.Facts.{Link, ref_link, Fact, KindText, Node, a_mark, link_iri, rel_link, triple_of}
+use Rattle.layouts_dm.specs.Layouts.{Class, ClassColumn, GoodLink, GoodReference, GoodRelation, HasNode, IsCanonical, IsGoodLink, IsGoodName, Part, WellFormed}
+use Rattle.facts_dm.specs.Facts.{Link, ref_link, Fact, KindText, Node, a_mark, rel_link, triple_of}
 use Rattle.graph_layouts_dm.proofs.Views.{IsClassAt, Views, each_class, if_class, GoodData, GoodRels, IsPlainClass, IsPlainRel, KeyView, MapFact, Plain, RelationView, class_at, key_link, key_part, layout_of, numbered, pairs_of, rel_part_of, rows_in, upto, view_at}
 use Rattle.members_dm.specs.Membership.{IsIn, IsRising, NoRepeats}
 use Rattle.members_dm.proofs.MembershipLemmas.{IsIn-append, IsIn-map, map-IsIn}
-use Rattle.layouts_dm.specs.LayoutTables.{IsTableOf, LiteralTable, StandsFor, AreTablesOf, class_table, in_order, relation_table}
+use Rattle.layouts_dm.specs.LayoutTables.{AreOfShape, AreTablesOf, IsTableOf, LiteralTable, StandsFor, class_table, in_order, is_before, literal_table, relation_table}
+use Rattle.schema_dm.specs.Shapes.{IsBefore}
+use Rattle.table_csv.specs.Plain.{PlainTable}
 use Rattle.schema_dm.specs.Naming.{Name}
 use Rattle.names_dm.specs.declared.names.RelName.{RelName}
 use Rattle.names_dm.specs.Statements.{Statement}

@@ -1,5 +1,5 @@
 -- The plain tables of a database are those of its views.
-use Rattle.std.proofs.Common.{◌≡◌, ℕ, zero, suc, ◌<◌, List, [], ◌∷◌, ◌++◌, map, length, refl, sym, ap, ◌∙◌, subst, inl, inr, Some, None, Option}
+use Rattle.std.proofs.Common.{◌≡◌, ℕ, zero, suc, ◌<◌, List, [], ◌∷◌, ◌++◌, map, length, refl, sym, ap, ◌∙◌, subst, inl, inr, Some, None, Option, arith}
 use Rattle.std.specs.Prelude.{slice_get, slice_index_or}
 use Rattle.std.specs.List.{AllZip}
 use Rattle.std.specs.List.Sorted.{IsPermutation}
@@ -7,23 +7,28 @@ use Rattle.std.specs.Option.{option_map}
 use Rattle.std.proofs.lemmas.List.Sorted.{IsPermutation-map, IsPermutation-sym}
 use Rattle.std.proofs.lemmas.Option.{slice_get-map, slice_get_within, slice_get-get_or}
 use Rattle.members_dm.specs.Membership.{IsIn, IsRising, NoRepeats}
-use Rattle.members_dm.proofs.ElementsLemmas.{item_within}
+use Rattle.members_dm.proofs.ElementsLemmas.{each_from_items, item_at_index, item_within}
 use Rattle.members_dm.proofs.MembershipLemmas.{IsIn-map, map-IsIn}
-use Rattle.schema_dm.specs.Naming.{column_place}
-use Rattle.schema_dm.specs.Schemas.{no_table, table_at}
+use Rattle.schema_dm.specs.Naming.{IsBadName, column_place}
+use Rattle.schema_dm.specs.Schemas.{IsTable, no_table, table_at}
+use Rattle.schema_dm.specs.Shapes.{IsShapeColumn}
+use Rattle.members_dm.specs.Elements.{Each}
+use Rattle.members_dm.proofs.AnyLemmas.{all_from_items, item_from_all}
+use Rattle.table_csv.proofs.Databases.{cell_fits, row_fits, rows_fit}
+use Rattle.std.proofs.lemmas.List.Sorted.{All-permutation}
 use Rattle.schema_dm.specs.Shapes.{IsBefore}
 use Rattle.schema_dm.specs.declared.draft.Column.{Column}
 use Rattle.schema_dm.specs.declared.table.Table.{Table}
 use Rattle.facts_dm.specs.Facts.{KindText}
-use Rattle.table_csv.specs.Cells.{Row, cells_at}
+use Rattle.table_csv.specs.Cells.{AreRowsOf, Cell, IsCellOf, IsRowOf, Row, cells_at}
 use Rattle.table_csv.specs.Databases.{Data, IsDatabase, rows_at}
 use Rattle.table_csv.specs.Plain.{IsColumnAt, IsPlain, IsPlainAt, IsPlainTable, PlainTable, plain_column}
 use Rattle.keys_dm.specs.KeyCells.{row_at}
-use Rattle.layouts_dm.specs.LayoutTables.{value_text, class_column, literal_table}
+use Rattle.layouts_dm.specs.LayoutTables.{AreOfShape, IsOfShape, value_text, class_column, literal_table}
 use Rattle.layouts_dm.specs.Layouts.{ClassColumn}
 use Rattle.graph_layouts_dm.proofs.Views.{IsClassAt, IsPlainClass, numbered, upto}
 use Rattle.graph_layouts_dm.proofs.Bridge.{Choices, SortedColumns, cell_view, views_of}
-use Rattle.graph_layouts_dm.proofs.Columns.{place_is}
+use Rattle.graph_layouts_dm.proofs.Columns.{column_there, place_is}
 use Rattle.graph_layouts_dm.proofs.Counting.{each_place}
 use Rattle.graph_layouts_dm.proofs.MapStands.{map_map}
 
@@ -150,3 +155,61 @@ module _ (D : Data) (database : IsDatabase D) (plain : List PlainTable) (is_plai
       let same = numbered_agree (length (rows_at D.rows t)) (λ i. lit (cells_at is.places (row_at (rows_at D.rows t) i))) (λ i. map (λ (d : ClassColumn). cell_view D t i d.name) (map class_column y.shape.columns))
       (λ i. row_is table (row_at (rows_at D.rows t) i) is.places y.shape.columns once is.columns.belong) in
       subst (IsPermutation (map lit y.rows)) (listed ∙ same) moved
+
+  -- ---- the rules of a shape
+
+  good_column : (table : Table) → IsTable D.tables table → (place : ℕ) (column : Column) → IsColumnAt table place column → IsShapeColumn column
+  good_column table is place column at =
+      let f = column_at table place column at in
+      subst IsShapeColumn f.2 (is.column_names f.0 (item_at_index f.0 table.columns place f.1), refl)
+
+  plain_cell : (c : Column) (cell : Cell) → IsCellOf c cell → IsCellOf (plain_column c) cell
+  plain_cell c None is = refl
+  plain_cell c (Some v) is = is
+
+  plain_row : (table : Table) (row : Row) (places : List ℕ) (columns : List Column) → IsRowOf table.columns row → AllZip (IsColumnAt table) places columns → IsRowOf columns (cells_at places row)
+  plain_row table row [] [] is h = tt
+  plain_row table row [] (c ∷ columns) is h = absurd h
+  plain_row table row (p ∷ places) [] is h = absurd h
+  plain_row table row (p ∷ places) (c ∷ columns) is h =
+      let f = column_at table p c h.0 in
+      (subst (λ (x : Column). IsCellOf x (slice_index_or row p None)) f.2 (plain_cell f.0 (slice_index_or row p None) (cell_fits table.columns row is p f.0 f.1 None)), plain_row table row places columns is h.1)
+
+  rows_of_shape : (table : Table) (rows : List Row) (y : PlainTable) → AreRowsOf table.columns rows → IsPlainTable table rows y → Each (IsRowOf y.shape.columns) y.rows
+  rows_of_shape table rows y are is =
+      each_from_items (IsRowOf y.shape.columns) y.rows (item_from_all (IsRowOf y.shape.columns) y.rows
+      (All-permutation (IsRowOf y.shape.columns) (map (cells_at is.places) rows) y.rows is.same_rows
+      (all_from_items (IsRowOf y.shape.columns) (map (cells_at is.places) rows)
+      (λ row i. let m = IsIn-map (cells_at is.places) row rows i in
+      subst (IsRowOf y.shape.columns) m.2 (plain_row table m.0 is.places y.shape.columns (row_fits table.columns rows are m.0 m.1) is.columns.belong)))))
+
+  some_item : {X : Type 0} (x : X) (xs : List X) → IsIn x xs → 0 < length xs
+  some_item x [] i = absurd i
+  some_item x (y ∷ ys) i = omega arith
+
+  shape_of : (y : PlainTable) → IsIn y plain → IsOfShape y
+  shape_of y i =
+      let z = zipped_back (IsPlainAt D) is_plain.places plain is_plain.tables.belong y i in
+      let below : z.0 < length D.tables = slice_get_within D.tables z.0 z.2.table z.2.here in
+      let at : slice_get D.tables z.0 ≡ Some (table_at D.tables z.0) = slice_get-get_or D.tables z.0 no_table below in
+      let is = plain_table z.0 y z.2 below in
+      let table = database.schema.each (table_at D.tables z.0) (item_within D.tables z.0 no_table below) in
+      let first = column_there (table_at D.tables z.0).columns 0 table.some_column in
+      let there = (sorted_columns (table_at D.tables z.0) (rows_at D.rows z.0) y is).all 0 first.0 first.1 in
+      let some = IsIn-map class_column (class_column first.0) y.shape.columns there in
+      record {
+        name = subst (λ n. ¬ IsBadName n) (sym is.name) table.name;
+        some = some_item some.0 y.shape.columns some.1;
+        rising = is.rising;
+        columns = λ column j.
+            let c = zipped_back (IsColumnAt (table_at D.tables z.0)) is.places y.shape.columns is.columns.belong column j in
+            good_column (table_at D.tables z.0) table c.0 column c.2;
+        rows = rows_of_shape (table_at D.tables z.0) (rows_at D.rows z.0) y (rows_fit D database z.0 (table_at D.tables z.0) at) is;
+      }
+
+  pub of_shape : AreOfShape plain
+  of_shape = record {
+    some = let y = plain_at 0 database.schema.some in some_item y.0 plain y.1;
+    rising = is_plain.rising;
+    each = shape_of;
+  }

@@ -1,12 +1,13 @@
--- The facts of a database's graph with every table a class, and its layout.
-use Rattle.std.specs.Prelude.{ℕ, zero, suc, ◌≡◌, ◌≢◌, ◌<◌, ◌⊎◌, Bool, true, false, cond, List, [], ◌∷◌, ◌++◌, Option, map}
+-- What a graph needs of a database: tables by number with their rows, keys and marks, and the layout that they make.
+use Rattle.std.specs.Prelude.{ℕ, zero, suc, ◌≡◌, ◌≢◌, ◌<◌, ◌⊎◌, Bool, true, false, cond, List, [], ◌∷◌, ◌++◌, Option, codes, map}
 use Rattle.std.specs.declared.option.Option.TheVariants.{None, Some}
 use Rattle.std.specs.List.Sorted.{IsPermutation}
-use Rattle.layouts_dm.specs.Layouts.{Class, ClassColumn, Layout, Part, property_iri, reference_link}
+use Rattle.layouts_dm.specs.Layouts.{Class, ClassColumn, IsCanonical, IsGoodLink, IsGoodName, Layout, Part, property_iri, reference_link}
 use Rattle.facts_dm.specs.Facts.{Fact, KindText, Link, Node, a_cell, a_class, a_domain, a_link, a_link_range, a_mark, a_node, a_property, a_range, an_object, blank, iri, link_iri, rel_link}
 use Rattle.members_dm.specs.Membership.{IsIn, IsRising, NoRepeats}
 use Rattle.value_dm.specs.declared.kind.Kind.{Kind}
-use Rattle.layouts_dm.specs.LayoutTables.{LiteralTable, in_order}
+use Rattle.layouts_dm.specs.LayoutTables.{LiteralTable, in_order, is_before}
+use Rattle.schema_dm.specs.Shapes.{IsBefore}
 use Rattle.schema_dm.specs.Naming.{Name, same_name}
 use Rattle.names_dm.specs.declared.names.RelName.{RelName}
 

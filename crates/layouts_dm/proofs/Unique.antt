@@ -1,6 +1,6 @@
 -- Two layouts of one graph have the same tables.
 use Rattle.std.specs.Prelude.{ℕ}
-use Rattle.std.proofs.Common.{◌≡◌, refl, sym, ap, ◌∙◌, subst, inl, inr, List, [], ◌∷◌, Option, Some, None, map, Bool}
+use Rattle.std.proofs.Common.{◌≡◌, refl, sym, ap, ◌∙◌, subst, inl, inr, List, [], ◌∷◌, Option, Some, None, map}
 use Rattle.std.specs.Prelude.{encode_utf8_all}
 use Rattle.std.specs.Cmp.{IsTotalOrder, nat_cmp_total}
 use Rattle.std.specs.Cmp.Lexicographic.{lists_total, slice_cmp}
@@ -121,7 +121,7 @@ module _ (base : List ℕ) (laws : NamingLaws base) (G : List Statement) (L : La
       let v = g.values x.0 x.1 k in
       (value_over p.from q.left_target x.0 v.0.0 n.0 g.left v.0.1, value_over p.to q.right_target x.1 v.1.0 n.1 g.right v.1.1)
 
-module _ (base : List ℕ) (laws : NamingLaws base) (G : List Statement) 
+module _ (base : List ℕ) (laws : NamingLaws base) (G : List Statement)
     (L : Layout) (w : WellFormed L) (d : Describes base L G) (Ts : List LiteralTable) (a : AreTablesOf L Ts)
     (M : Layout) (u : WellFormed M) (e : Describes base M G) (Us : List LiteralTable) (b : AreTablesOf M Us) where
   columns_same : (c c' : Class) → IsIn c L.classes → IsIn c' M.classes → c.name ≡ c'.name → c.columns ≡ c'.columns

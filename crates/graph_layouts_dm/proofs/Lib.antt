@@ -1,0 +1,13 @@
+pub mod Views
+pub mod Stands
+pub mod MapStands
+pub mod Counting
+pub mod Columns
+pub mod Bridge
+pub mod MapFacts
+pub mod Plains
+pub mod KeysStand
+pub mod RelationRows
+pub mod MapRelations
+pub mod PlainRelations
+pub mod MapGraphStands
