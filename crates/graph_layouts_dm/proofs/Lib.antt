@@ -11,3 +11,4 @@ pub mod RelationRows
 pub mod MapRelations
 pub mod PlainRelations
 pub mod MapGraphStands
+pub mod SomePlain

@@ -1,8 +1,8 @@
 mod KeyRows
 pub mod NodeLaws
 mod KeyNodes
-mod Decisions
-mod RelationTests
+pub mod Decisions
+pub mod RelationTests
 mod PlanSteps
 pub mod SomePlan
 mod LevelTexts

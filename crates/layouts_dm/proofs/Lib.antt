@@ -4,3 +4,4 @@ pub mod Sound
 pub mod Unique
 pub mod Outcomes
 pub mod Values
+pub mod Sorting
