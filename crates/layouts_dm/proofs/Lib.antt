@@ -5,3 +5,5 @@ pub mod Unique
 pub mod Outcomes
 pub mod Values
 pub mod Sorting
+pub mod Choosing
+pub mod Accepting

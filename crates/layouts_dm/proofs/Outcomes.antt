@@ -21,7 +21,7 @@ use Rattle.layouts_dm.proofs.Sound as sound
 use Rattle.layouts_dm.proofs.Unique.{tables_unique}
 
 -- for two places, a fact that goes by the later one
-by_later : (P : Type 0) (i j : ℕ) → (i < j → P) → (j < i → P) → (i ≡ j → P) → P
+pub by_later : (P : Type 0) (i j : ℕ) → (i < j → P) → (j < i → P) → (i ≡ j → P) → P
 by_later P i j f g h = elim (eqb_tells i j) [ inl e ↦ h e.1 | inr e ↦ elim (cases_lt i j) [ inl l ↦ f l | inr l ↦ g (let d : i ≢ j = e.1 in omega arith) ] ]
 
 module _ (base : List ℕ) (laws : NamingLaws base) (G : List Statement) where

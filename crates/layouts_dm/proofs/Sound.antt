@@ -17,10 +17,10 @@ iri-injective a b e = cc
 
 module _ (base : List ℕ) (laws : NamingLaws base) (G : List Statement) where
   -- a link has one class at each end
-  link_to : (l : Link) (t u t' u' : Name) → IsLink base G l t u → IsLink base G l t' u' → u ≡ u'
+  pub link_to : (l : Link) (t u t' u' : Name) → IsLink base G l t u → IsLink base G l t' u' → u ≡ u'
   link_to l t u t' u' h g = table-injective base laws u u' (iri-injective _ _ (g.linked.one_range (triple_of base (a_link_range l u)) h.linked.range refl refl))
 
-  link_from : (l : Link) (t u t' u' : Name) → IsLink base G l t u → IsLink base G l t' u' → t ≡ t'
+  pub link_from : (l : Link) (t u t' u' : Name) → IsLink base G l t u → IsLink base G l t' u' → t ≡ t'
   link_from (ref_link name) t u t' u' h g = h.sort.of_table ∙ sym g.sort.of_table
   link_from (rel_link q) t u t' u' h g = table-injective base laws t t' (iri-injective _ _ (g.sort.one_domain (triple_of base (a_domain (link_iri base (rel_link q)) t)) h.linked.domain refl refl))
 
