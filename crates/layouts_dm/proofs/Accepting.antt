@@ -1,16 +1,15 @@
 -- Where no cause applies to a triple of a graph, the graph can't fail to be accepted.
-use Rattle.std.proofs.Common.{◌≡◌, ◌⊎◌, ℕ, ◌<◌, List, length, refl, sym, ap, ◌∙◌, subst, inl, inr, Some}
-use Rattle.std.specs.Prelude.{◌≢◌, nat_eq, slice_get}
+use Rattle.std.proofs.Common.{◌≡◌, ◌⊎◌, ℕ, List, refl, sym, ap, ◌∙◌, subst, inl, inr, Some}
+use Rattle.std.specs.Prelude.{nat_eq, slice_get}
 use Rattle.std.specs.Cmp.Lexicographic.{pointwise}
 use Rattle.value_dm.specs.Equality.{numbers_decide}
-use Rattle.value_dm.specs.declared.kind.Kind.{Kind}
 use Rattle.members_dm.specs.Membership.{IsIn}
 use Rattle.members_dm.proofs.ElementsLemmas.{index_of_item}
 use Rattle.members_dm.proofs.ElementsTests.{stable_by_test}
 use Rattle.schema_dm.specs.Naming.{Name}
 use Rattle.names_dm.specs.Statements.{Statement}
 use Rattle.names_dm.specs.declared.names.RelName.{RelName}
-use Rattle.facts_dm.specs.Facts.{Fact, KindText, Link, Node, a_cell, a_link, a_node, rel_link, triple_of}
+use Rattle.facts_dm.specs.Facts.{Fact, KindText, Link, Node, a_link, a_node, rel_link, triple_of}
 use Rattle.facts_dm.specs.Meanings.{NamingLaws}
 use Rattle.facts_dm.specs.Vocabulary.{word_iri}
 use Rattle.facts_dm.specs.declared.word.Word.TheVariants.{Datatype}

@@ -38,21 +38,21 @@ module _ {X Y : Type 0} (made : X → Y) (one : (x y : X) → made x ≡ made y 
   }
   more y ys f (inl h) among = elim (among h.0 h.1) [
     | inl there ↦ record {
-        items = f.items;
-        once = f.once;
-        same = λ x. (
-          (λ i. inr ((f.same x).0 i)),
-          (λ g. elim g [ inl e ↦ subst (λ z. IsIn z f.items) (one h.0 x (h.1 ∙ e)) there | inr i ↦ (f.same x).1 i ]),
-        );
-      }
+      items = f.items;
+      once = f.once;
+      same = λ x. (
+        (λ i. inr ((f.same x).0 i)),
+        (λ g. elim g [ inl e ↦ subst (λ z. IsIn z f.items) (one h.0 x (h.1 ∙ e)) there | inr i ↦ (f.same x).1 i ]),
+      );
+    }
     | inr new ↦ record {
-        items = h.0 ∷ f.items;
-        once = (new, f.once);
-        same = λ x. (
-          (λ i. elim i [ inl e ↦ inl (sym h.1 ∙ ap made e) | inr k ↦ inr ((f.same x).0 k) ]),
-          (λ g. elim g [ inl e ↦ inl (one h.0 x (h.1 ∙ e)) | inr i ↦ inr ((f.same x).1 i) ]),
-        );
-      }
+      items = h.0 ∷ f.items;
+      once = (new, f.once);
+      same = λ x. (
+        (λ i. elim i [ inl e ↦ inl (sym h.1 ∙ ap made e) | inr k ↦ inr ((f.same x).0 k) ]),
+        (λ g. elim g [ inl e ↦ inl (one h.0 x (h.1 ∙ e)) | inr i ↦ inr ((f.same x).1 i) ]),
+      );
+    }
   ]
 
   pub found : (ys : List Y) → Surely (Found made ys)

@@ -7,3 +7,5 @@ pub mod Values
 pub mod Sorting
 pub mod Choosing
 pub mod Accepting
+pub mod ReadingOff
+pub mod Tabling

@@ -54,7 +54,7 @@ module _ (base : List ℕ) (laws : NamingLaws base) (G : List Statement) where
       unsome : {x y : Statement} → Some x ≡ Some y → x ≡ y
       unsome e = cc
 
-  explains_of : Accepted base G → (f : Fact) → IsIn (triple_of base f) G → Explains base G f
+  pub explains_of : Accepted base G → (f : Fact) → IsIn (triple_of base f) G → Explains base G f
   explains_of a f h = let s = a.explained (triple_of base f) h in subst (Explains base G) (sym (laws.one_fact f s.0 s.1)) s.2
 
   -- an accepted graph has no bad triple

@@ -1,17 +1,21 @@
 -- A list can be put in order, where any two of its items are; names can, by their bytes.
-use Rattle.std.proofs.Common.{◌≡◌, ◌⊎◌, ℕ, List, [], ◌∷◌, map, refl, sym, ap, ◌∙◌, subst, inl, inr, true, encode_utf8_all}
+use Rattle.std.proofs.Common.{◌≡◌, ◌⊎◌, ℕ, List, [], ◌∷◌, map, refl, sym, ap, ◌∙◌, subst, inl, inr, true, false, encode_utf8_all}
 use Rattle.std.specs.Prelude.{◌↔◌, chars}
 use Rattle.std.specs.Cmp.{IsTotalOrder, nat_cmp_total}
 use Rattle.std.specs.Cmp.Lexicographic.{lists_total, slice_cmp}
-use Rattle.std.specs.Ordering.{is_eq, nat_cmp, ordering_reverse}
+use Rattle.std.specs.Ordering.{is_eq, is_lt, nat_cmp, ordering_reverse}
 use Rattle.std.specs.declared.cmp.Ordering.{Ordering}
 use Rattle.std.specs.declared.cmp.Ordering.TheVariants.{Less, Equal, Greater}
+use Rattle.std.proofs.lemmas.Bool.{cases_Bool}
 use Rattle.std.proofs.lemmas.Map.Text.{is_eq-slice_cmp}
 use Rattle.std.proofs.lemmas.Slice.Eq.{bytes_eq-Decides}
 use Rattle.members_dm.specs.Membership.{IsIn, IsRising, NoRepeats, SameItems}
 use Rattle.members_dm.proofs.ElementsLemmas.{IsRising-cons}
+use Rattle.members_dm.proofs.MembershipLemmas.{IsIn-map}
 use Rattle.schema_dm.specs.Naming.{Name}
 use Rattle.schema_dm.specs.Shapes.{IsBefore}
+use Rattle.layouts_dm.specs.LayoutTables.{is_before}
+use Rattle.layouts_dm.proofs.Unique.{before_one_way}
 use Rattle.names_dm.proofs.Utf8.{chars-encodes_any}
 
 -- ---- any list
@@ -79,3 +83,23 @@ name_order x y = go (slice_cmp nat_cmp (encode_utf8_all x) (encode_utf8_all y)) 
     go Greater e =
         let o : IsTotalOrder (slice_cmp nat_cmp) = lists_total nat_cmp_total in
         inr (inr (o.antisymm (encode_utf8_all y) (encode_utf8_all x) ∙ ap ordering_reverse e))
+
+pub rising_map : {X : Type 0} (f : X → Name) (xs : List X) → IsRising (λ x y. IsBefore (f x) (f y)) xs → IsRising IsBefore (map f xs)
+rising_map f [] h = tt
+rising_map f (x ∷ xs) h = ((λ y i. let m = IsIn-map f y xs i in subst (IsBefore (f x)) m.2 (h.0 m.0 m.1)), rising_map f xs h.1)
+
+pub before_true : (x y : Name) → IsBefore x y → is_before x y ≡ true
+unfolding IsBefore is_before
+before_true x y h = ap is_lt h
+
+less_back : (o : Ordering) → is_lt o ≡ true → o ≡ Less
+less_back Less e = refl
+less_back Equal e = absurd (let f : false ≡ true = e in cc)
+less_back Greater e = absurd (let f : false ≡ true = e in cc)
+
+pub before_back : (x y : Name) → is_before x y ≡ true → IsBefore x y
+unfolding IsBefore is_before
+before_back x y e = less_back _ e
+
+pub before_false : (x y : Name) → IsBefore y x → is_before x y ≡ false
+before_false x y h = elim (cases_Bool (is_before x y)) [ inl t ↦ absurd (before_one_way y x h (before_back x y t)) | inr f ↦ f ]

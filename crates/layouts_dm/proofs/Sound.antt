@@ -12,7 +12,7 @@ use Rattle.facts_dm.specs.Meanings.{NamingLaws}
 use Rattle.names_dm.specs.Statements.{Statement}
 use Rattle.layouts_dm.proofs.Facts.{alone_iri, table-injective, datatype-injective, datatype≢table}
 
-iri-injective : (a b : Name) → (iri_term a) ≡ (iri_term b) → a ≡ b
+pub iri-injective : (a b : Name) → (iri_term a) ≡ (iri_term b) → a ≡ b
 iri-injective a b e = cc
 
 module _ (base : List ℕ) (laws : NamingLaws base) (G : List Statement) where

@@ -47,7 +47,7 @@ all_zip_of_names f R (x ∷ xs) (y ∷ ys) e h =
     let b : map f xs ≡ map f ys = cc in
     (h x y (inl refl) (inl refl) a, all_zip_of_names f R xs ys b (λ x y i j. h x y (inr i) (inr j)))
 
-column_same : (d e : ClassColumn) → d.name ≡ e.name → d.kind ≡ e.kind → d ≡ e
+pub column_same : (d e : ClassColumn) → d.name ≡ e.name → d.kind ≡ e.kind → d ≡ e
 column_same d e p q = λ i. record { name = p i; kind = q i }
 
 same_rows : {X Y : Type 0} (f g : X → Y) (xs ys : List X) → ((x : X) → IsIn x xs → f x ≡ g x) → IsPermutation xs ys → IsPermutation (map f xs) (map g ys)

@@ -1,10 +1,10 @@
 ghost use Rattle.layouts_dm.specs.LayoutTables.{SamePlain, StandsFor};
 ghost use Rattle.layouts_dm.specs.Layouts.{Describes, Layout, WellFormed};
-ghost use Rattle.layouts_dm.specs.Outcomes.{Applies, Cause};
+ghost use Rattle.layouts_dm.specs.Outcomes.{Applies, Cause, FirstBad};
 ghost use Rattle.layouts_dm.specs.Rules.{Accepted, ReadOff};
 ghost use Rattle.names_dm.specs.Statements.{Statement};
 ghost use Rattle.std.specs.List.{AllZip};
-ghost use Rattle.std.specs.Prelude.{◌≡◌, ℕ, List, []};
+ghost use Rattle.std.specs.Prelude.{◌≡◌, ◌≢◌, ℕ, List, []};
 ghost use Rattle.table_csv.specs.Plain.{PlainTable};
 
 use facts_dm::naming_laws;
@@ -35,12 +35,16 @@ pub fn tables_are_determined(base: &Base)
     naming_laws(base);
 }
 
-/// The outcomes for a graph exclude one another: one cause at most applies to a triple, none applies in a graph that stands
-/// for tables, and an empty graph stands for none. The call does nothing; its clauses are the law.
-pub fn outcomes_exclude_one_another(base: &Base)
+/// Of any list of triples exactly one is true: it is empty, it has a first triple to which a cause applies, and one cause
+/// alone, or it stands for tables. The call does nothing; its clauses are the law: one cause at most applies to a triple, none
+/// applies in a graph that stands for tables, an empty graph stands for none, and where there is a triple and no first bad
+/// one, it can't be that the graph stands for no tables.
+pub fn one_outcome(base: &Base)
     ensures one_cause { (G : List Statement) (i : ℕ) (cause other : Cause) → Applies base.now G i cause → Applies base.now G i other → cause ≡ other }
     ensures no_cause { (G : List Statement) (tables : List PlainTable) → StandsFor base.now G tables → (i : ℕ) (cause : Cause) → ¬ Applies base.now G i cause }
     ensures some_triple { (tables : List PlainTable) → ¬ StandsFor base.now [] tables }
+    ensures some_outcome { (G : List Statement) → G ≢ [] → ((i : ℕ) (cause : Cause) → ¬ FirstBad base.now G i cause)
+        → ¬ ((tables : List PlainTable) → ¬ StandsFor base.now G tables) }
 {
     naming_laws(base);
 }

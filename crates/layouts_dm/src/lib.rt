@@ -5,6 +5,6 @@
 mod laws;
 
 pub use laws::{
-    accepted_graphs_are_described, described_graphs_are_accepted, outcomes_exclude_one_another,
+    accepted_graphs_are_described, described_graphs_are_accepted, one_outcome,
     tables_are_determined,
 };
