@@ -15,10 +15,7 @@ use Rattle.schema_dm.specs.Shapes.{IsBefore}
 use Rattle.schema_dm.specs.declared.draft.Column.{Column}
 use Rattle.schema_dm.specs.declared.table.ForeignKey.{ForeignKey}
 use Rattle.schema_dm.specs.declared.table.Table.{Table}
-use Rattle.names_dm.specs.Apart.{NamesApart}
-use Rattle.names_dm.specs.declared.names.ColumnName.{ColumnName}
-use Rattle.facts_dm.specs.Facts.{KindText, link_iri, ref_link_iri}
-use Rattle.names_dm.specs.Names.{ref_iri}
+use Rattle.facts_dm.specs.Facts.{KindText}
 use Rattle.table_csv.specs.Cells.{AreRowsOf, Cell, IsCellOf, IsRowOf, Row}
 use Rattle.table_csv.specs.Databases.{Data, IsDatabase, rows_at}
 use Rattle.table_csv.proofs.Zips.{zipped_at}
@@ -26,11 +23,11 @@ use Rattle.keys_dm.specs.KeyCells.{row_at}
 use Rattle.layouts_dm.specs.LayoutTables.{value_text, class_column}
 use Rattle.graphs_dm.specs.Nodes.{row_node}
 use Rattle.graphs_dm.specs.OwnNodes.{RowsHaveOwnNodes}
-use Rattle.layouts_dm.specs.Layouts.{ClassColumn, column_named, property_iri, IsCanonical, IsGoodName}
+use Rattle.layouts_dm.specs.Layouts.{ClassColumn, IsCanonical, IsGoodName}
 use Rattle.graphs_dm.specs.Relations.{CountsAsClass}
 use Rattle.graphs_dm.specs.declared.graph_name.GraphName.{GraphName}
 use Rattle.graphs_dm.specs.declared.graph_name.GraphName.TheVariants.{MapKeys, Map, Direct}
-use Rattle.graph_layouts_dm.proofs.Views.{GoodData, IsClassAt, KeyView, TableView, Views, key_link}
+use Rattle.graph_layouts_dm.proofs.Views.{GoodData, IsClassAt, KeyView, TableView, Views}
 use Rattle.graph_layouts_dm.proofs.Columns.{column_there, name_at_is, one_list, one_place, place_is}
 use Rattle.graph_layouts_dm.proofs.MapStands.{map_map}
 use Rattle.layouts_dm.proofs.Unique.{before_one_way}

@@ -9,7 +9,6 @@ use Rattle.schema_dm.specs.Schemas.{table_at}
 use Rattle.schema_dm.specs.Shapes.{IsBefore}
 use Rattle.schema_dm.specs.declared.table.Binary.{Binary}
 use Rattle.schema_dm.specs.declared.table.Table.{Table}
-use Rattle.names_dm.specs.Apart.{NamesApart}
 use Rattle.facts_dm.specs.Facts.{Fact}
 use Rattle.names_dm.specs.Statements.{Statement}
 use Rattle.table_csv.specs.Databases.{Data, IsDatabase, rows_at}
@@ -17,7 +16,7 @@ use Rattle.table_csv.specs.Plain.{IsPlain, IsPlainAt, PlainTable}
 use Rattle.graphs_dm.specs.Nodes.{row_node}
 use Rattle.graphs_dm.specs.OwnNodes.{RowsHaveOwnNodes}
 use Rattle.layouts_dm.specs.Layouts.{ClassColumn}
-use Rattle.layouts_dm.specs.LayoutTables.{LiteralTable, StandsFor, class_column, is_before, literal_table}
+use Rattle.layouts_dm.specs.LayoutTables.{LiteralTable, StandsFor, class_column, literal_table}
 use Rattle.graphs_dm.specs.Graphs.{AreTriplesOf, IsFactOf}
 use Rattle.graphs_dm.specs.Relations.{CountsAsClass, CountsAsRelation}
 use Rattle.graphs_dm.specs.declared.graph_name.GraphName.TheVariants.{MapKeys}
@@ -27,7 +26,8 @@ use Rattle.graphs_dm.proofs.Decisions.{flag, flag_is, told_match, told_violates}
 use Rattle.graph_layouts_dm.proofs.MapFacts.{said, says}
 use Rattle.graph_layouts_dm.proofs.MapStands.{graph_stands_for_plain, map_map}
 use Rattle.layouts_dm.proofs.Unique.{before_one_way}
-use Rattle.graph_layouts_dm.proofs.Plains.{is_plain_class, plain_at, plain_table, sorted_columns, zipped_back, of_shape}
+use Rattle.graph_layouts_dm.proofs.Plains.{is_plain_class, plain_at, plain_table, sorted_columns, of_shape}
+use Rattle.layouts_dm.proofs.Choosing.{zipped_back}
 use Rattle.value_dm.specs.declared.kind.Kind.TheVariants as kind
 
 pub rising_by : (xs : List ClassColumn) → IsRising IsBefore (map (λ (d : ClassColumn). d.name) xs) → IsRising (λ (x y : ClassColumn). IsBefore x.name y.name) xs

@@ -29,7 +29,6 @@ use Rattle.graphs_dm.specs.Relations.{CountsAsClass, CountsAsRelation, left_key,
 use Rattle.graphs_dm.specs.declared.graph_name.GraphName.{GraphName}
 use Rattle.graphs_dm.specs.Graphs.{IsFactOf, GraphRowStandsAt, StandsAt, of_ontology, of_row, row_mark, row_of_class, row_of_relation, MarksViolations, HasOntology}
 use Rattle.graphs_dm.specs.Ontology.{OntologyStandsAt, of_class, column_domain, column_of, column_property, column_range, reference_domain, reference_property, reference_range, relation_domain, relation_property, relation_range, of_column, of_reference, of_relation, ColumnStandsAt, ReferenceStandsAt, RelationStandsAt}
-use Rattle.graphs_dm.specs.declared.graph_name.GraphName.TheVariants.{MapKeys}
 use Rattle.graph_layouts_dm.proofs.Views.{IsClassAt, KeyView, MapFact, RelationView, Views, key_link}
 use Rattle.graph_layouts_dm.proofs.Bridge.{Choices, SortedColumns, cell_view, key_view, views_of}
 use Rattle.graph_layouts_dm.proofs.Columns.{place_is}

@@ -5,7 +5,6 @@ use Rattle.std.specs.List.Sorted.{IsPermutation}
 use Rattle.std.specs.Option.{option_map}
 use Rattle.std.proofs.lemmas.Option.{slice_get_within}
 use Rattle.members_dm.specs.Membership.{IsIn, IsRising}
-use Rattle.members_dm.proofs.ElementsLemmas.{item_at_index}
 use Rattle.members_dm.proofs.MembershipLemmas.{IsIn-map, map-IsIn}
 use Rattle.schema_dm.specs.Naming.{kind_at, name_at}
 use Rattle.schema_dm.specs.Relations.{IsBinaryRelation}
@@ -14,8 +13,7 @@ use Rattle.schema_dm.specs.Shapes.{IsBefore}
 use Rattle.schema_dm.specs.declared.draft.Column.{Column}
 use Rattle.schema_dm.specs.declared.table.Binary.{Binary}
 use Rattle.schema_dm.specs.declared.table.ForeignKey.{ForeignKey}
-use Rattle.names_dm.specs.Apart.{NamesApart}
-use Rattle.facts_dm.specs.Facts.{Fact, rel_link}
+use Rattle.facts_dm.specs.Facts.{Fact}
 use Rattle.names_dm.specs.Statements.{Statement}
 use Rattle.table_csv.specs.Databases.{Data, IsDatabase, rows_at}
 use Rattle.table_csv.specs.Plain.{IsColumnAt, IsPlain, IsPlainAt, PlainTable}
@@ -25,21 +23,22 @@ use Rattle.keys_dm.specs.Violations.{KeepsKeys}
 use Rattle.layouts_dm.specs.LayoutTables.{value_text, LiteralTable, StandsFor, class_column, in_order, is_before, literal_table}
 use Rattle.graphs_dm.specs.Nodes.{row_node}
 use Rattle.graphs_dm.specs.OwnNodes.{HasRow, RowsHaveOwnNodes}
-use Rattle.layouts_dm.specs.Layouts.{ClassColumn, IsGoodLink, IsGoodName}
+use Rattle.layouts_dm.specs.Layouts.{ClassColumn}
 use Rattle.graphs_dm.specs.Graphs.{AreTriplesOf, IsFactOf}
 use Rattle.graphs_dm.specs.Relations.{CountsAsClass, left_key, right_key, target_name}
 use Rattle.graphs_dm.specs.RowFacts.{References}
-use Rattle.graphs_dm.specs.declared.graph_name.GraphName.TheVariants.{MapKeys, Map}
+use Rattle.graphs_dm.specs.declared.graph_name.GraphName.TheVariants.{Map}
 use Rattle.graph_layouts_dm.proofs.Views.{IsClassAt, IsPlainClass, IsPlainRel, MapFact, Plain, RelationView, Views, numbered}
 use Rattle.graph_layouts_dm.proofs.Bridge.{Choices, cell_view, good_data, is_table, target_is_class, views_of}
 use Rattle.graph_layouts_dm.proofs.Columns.{column_there, name_at_is, place_is}
 use Rattle.graphs_dm.proofs.Decisions.{Told, flag, flag_is, told_match}
 use Rattle.graph_layouts_dm.proofs.KeysStand.{columns_are, columns_of, rising_by, sorted}
 use Rattle.graph_layouts_dm.proofs.MapFacts.{relation_view, said, says}
-use Rattle.graph_layouts_dm.proofs.MapRelations.{Side, cell_is, ends_of, good_rels, kind_is, relation_from, relation_in, relations_of, side, target_is}
+use Rattle.graph_layouts_dm.proofs.MapRelations.{Side, cell_is, ends_of, good_rels, kind_is, relation_from, relation_in, relations_of, side}
 use Rattle.graph_layouts_dm.proofs.MapStands.{graph_stands_for_plain, map_map, upto_agree}
 use Rattle.graph_layouts_dm.proofs.PlainRelations.{map_in_order, order_of, two_places}
-use Rattle.graph_layouts_dm.proofs.Plains.{column_at, is_plain_class, plain_at, plain_rows, plain_table, zipped, zipped_back, of_shape}
+use Rattle.graph_layouts_dm.proofs.Plains.{column_at, is_plain_class, plain_at, plain_rows, plain_table, of_shape}
+use Rattle.layouts_dm.proofs.Choosing.{zipped, zipped_back}
 use Rattle.graph_layouts_dm.proofs.RelationRows.{row_is}
 use Rattle.graphs_dm.proofs.RelationTests.{told_relation}
 

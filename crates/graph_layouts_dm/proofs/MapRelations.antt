@@ -12,7 +12,6 @@ use Rattle.schema_dm.specs.declared.draft.Column.{Column}
 use Rattle.schema_dm.specs.declared.table.Binary.{Binary}
 use Rattle.schema_dm.specs.declared.table.ForeignKey.{ForeignKey}
 use Rattle.schema_dm.proofs.OneRelation.{sides_unique}
-use Rattle.names_dm.specs.Apart.{NamesApart}
 use Rattle.facts_dm.specs.Facts.{KindText}
 use Rattle.table_csv.specs.Cells.{Cell, cells_at}
 use Rattle.table_csv.specs.Databases.{Data, IsDatabase, rows_at}
@@ -21,8 +20,8 @@ use Rattle.keys_dm.specs.KeyCells.{row_at}
 use Rattle.keys_dm.specs.Violations.{KeepsKeys}
 use Rattle.layouts_dm.specs.LayoutTables.{value_text, class_column}
 use Rattle.graphs_dm.specs.OwnNodes.{HasRow, RowsHaveOwnNodes}
-use Rattle.layouts_dm.specs.Layouts.{ClassColumn, column_named, IsGoodName}
-use Rattle.graphs_dm.specs.Relations.{CountsAsClass, left_key, no_key, relation_name, right_key, target_name}
+use Rattle.layouts_dm.specs.Layouts.{ClassColumn, IsGoodName}
+use Rattle.graphs_dm.specs.Relations.{CountsAsClass, left_key, no_key, right_key, target_name}
 use Rattle.graphs_dm.specs.declared.graph_name.GraphName.TheVariants.{Map}
 use Rattle.graph_layouts_dm.proofs.Views.{GoodRel, GoodRels, IsClassAt, RelationView, Views, upto}
 use Rattle.graph_layouts_dm.proofs.Bridge.{Choices, SortedColumns, cell_view, is_table, one_table, target_is_class, views_of}

@@ -1,6 +1,6 @@
 -- The graph of a database stands for its plain tables.
 use Rattle.std.proofs.Common.{◌≡◌, ℕ, zero, suc, ◌<◌, refl, sym, ap, ◌∙◌, subst, inl, inr, ◌⊎◌, List, [], ◌∷◌, ◌++◌, Some, map, Bool, true, false, cond, arith}
-use Rattle.std.specs.Prelude.{◌≢◌, ◌↔◌}
+use Rattle.std.specs.Prelude.{◌↔◌}
 use Rattle.std.specs.List.Sorted.{IsPermutation}
 use Rattle.layouts_dm.specs.Layouts.{Class, ClassColumn, GoodLink, GoodReference, GoodRelation, HasNode, IsCanonical, IsGoodLink, IsGoodName, Part, WellFormed}
 use Rattle.facts_dm.specs.Facts.{Link, ref_link, Fact, KindText, Node, a_mark, rel_link, triple_of}

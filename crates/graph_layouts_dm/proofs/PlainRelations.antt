@@ -2,10 +2,6 @@
 use Rattle.std.proofs.Common.{◌≡◌, ◌⊎◌, ℕ, zero, suc, ◌<◌, Bool, true, false, List, [], ◌∷◌, map, length, refl, sym, ap, ◌∙◌, subst, inl, inr, arith, Some}
 use Rattle.std.specs.Prelude.{slice_get}
 use Rattle.std.specs.List.{AllZip}
-use Rattle.std.specs.Ordering.{is_lt}
-use Rattle.std.specs.declared.cmp.Ordering.{Ordering}
-use Rattle.std.specs.declared.cmp.Ordering.TheVariants.{Less, Equal, Greater}
-use Rattle.std.proofs.lemmas.Bool.{cases_Bool}
 use Rattle.members_dm.specs.Membership.{IsIn, IsRising, NoRepeats}
 use Rattle.schema_dm.specs.Naming.{Name}
 use Rattle.schema_dm.specs.Shapes.{IsBefore}
@@ -13,24 +9,8 @@ use Rattle.schema_dm.specs.declared.draft.Column.{Column}
 use Rattle.schema_dm.specs.declared.table.Table.{Table}
 use Rattle.table_csv.specs.Plain.{IsColumnAt, plain_column}
 use Rattle.layouts_dm.specs.LayoutTables.{class_column, in_order, is_before}
-use Rattle.layouts_dm.proofs.Unique.{before_one_way}
+use Rattle.layouts_dm.proofs.Sorting.{before_false, before_true}
 use Rattle.graph_layouts_dm.proofs.Plains.{column_at}
-
-pub before_true : (x y : Name) → IsBefore x y → is_before x y ≡ true
-unfolding IsBefore is_before
-before_true x y h = ap is_lt h
-
-less_back : (o : Ordering) → is_lt o ≡ true → o ≡ Less
-less_back Less e = refl
-less_back Equal e = absurd (let f : false ≡ true = e in cc)
-less_back Greater e = absurd (let f : false ≡ true = e in cc)
-
-before_back : (x y : Name) → is_before x y ≡ true → IsBefore x y
-unfolding IsBefore is_before
-before_back x y e = less_back _ e
-
-pub before_false : (x y : Name) → IsBefore y x → is_before x y ≡ false
-before_false x y h = elim (cases_Bool (is_before x y)) [ inl t ↦ absurd (before_one_way y x h (before_back x y t)) | inr f ↦ f ]
 
 pub two_places : (places : List ℕ) → length places ≡ 2 → NoRepeats places → ((p : ℕ) → IsIn p places → p < 2) → (places ≡ 0 ∷ 1 ∷ []) ⊎ (places ≡ 1 ∷ 0 ∷ [])
 two_places [] e once below = absurd (omega arith)

@@ -1,5 +1,5 @@
 -- The plain tables of a database are those of its views.
-use Rattle.std.proofs.Common.{◌≡◌, ℕ, zero, suc, ◌<◌, List, [], ◌∷◌, ◌++◌, map, length, refl, sym, ap, ◌∙◌, subst, inl, inr, Some, None, Option, arith}
+use Rattle.std.proofs.Common.{◌≡◌, ℕ, zero, suc, ◌<◌, List, [], ◌∷◌, ◌++◌, map, length, refl, sym, ap, ◌∙◌, subst, Some, None, Option, arith}
 use Rattle.std.specs.Prelude.{slice_get, slice_index_or}
 use Rattle.std.specs.List.{AllZip}
 use Rattle.std.specs.List.Sorted.{IsPermutation}
@@ -24,6 +24,7 @@ use Rattle.table_csv.specs.Cells.{AreRowsOf, Cell, IsCellOf, IsRowOf, Row, cells
 use Rattle.table_csv.specs.Databases.{Data, IsDatabase, rows_at}
 use Rattle.table_csv.specs.Plain.{IsColumnAt, IsPlain, IsPlainAt, IsPlainTable, PlainTable, plain_column}
 use Rattle.keys_dm.specs.KeyCells.{row_at}
+use Rattle.layouts_dm.proofs.Choosing.{zipped, zipped_back}
 use Rattle.layouts_dm.specs.LayoutTables.{AreOfShape, IsOfShape, value_text, class_column, literal_table}
 use Rattle.layouts_dm.specs.Layouts.{ClassColumn}
 use Rattle.graph_layouts_dm.proofs.Views.{IsClassAt, IsPlainClass, numbered, upto}
@@ -34,21 +35,6 @@ use Rattle.graph_layouts_dm.proofs.MapStands.{map_map}
 
 some_is : {X : Type 0} (x y : X) → Some x ≡ Some y → x ≡ y
 some_is x y e = cc
-
--- ---- lists side by side
-
-pub zipped : {A B : Type 0} (R : A → B → Type 0) (xs : List A) (ys : List B) → AllZip R xs ys → (x : A) → IsIn x xs → (y : B) × IsIn y ys × R x y
-zipped R [] ys h x i = absurd i
-zipped R (a ∷ xs) [] h x i = absurd h
-zipped R (a ∷ xs) (b ∷ ys) h x (inl e) = (b, inl refl, subst (λ z. R z b) e h.0)
-zipped R (a ∷ xs) (b ∷ ys) h x (inr i) = let r = zipped R xs ys h.1 x i in (r.0, inr r.1, r.2)
-
-pub zipped_back : {A B : Type 0} (R : A → B → Type 0) (xs : List A) (ys : List B) → AllZip R xs ys → (y : B) → IsIn y ys → (x : A) × IsIn x xs × R x y
-zipped_back R [] [] h y i = absurd i
-zipped_back R [] (b ∷ ys) h y i = absurd h
-zipped_back R (a ∷ xs) [] h y i = absurd h
-zipped_back R (a ∷ xs) (b ∷ ys) h y (inl e) = (a, inl refl, subst (λ z. R a z) e h.0)
-zipped_back R (a ∷ xs) (b ∷ ys) h y (inr i) = let r = zipped_back R xs ys h.1 y i in (r.0, inr r.1, r.2)
 
 append_nothing : {X : Type 0} (xs : List X) → xs ++ [] ≡ xs
 append_nothing [] = refl

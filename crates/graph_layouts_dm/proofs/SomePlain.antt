@@ -1,12 +1,11 @@
 -- Each database has plain tables: its tables, and the columns of each, can be put in the order of their names.
-use Rattle.std.proofs.Common.{◌≡◌, ◌⊎◌, ◌+◌, ℕ, zero, suc, ◌<◌, List, [], ◌∷◌, map, length, length-append, refl, sym, ap, ◌∙◌, subst, inl, inr, arith, Some}
-use Rattle.std.specs.List.{AllZip}
+use Rattle.std.proofs.Common.{◌≡◌, ℕ, zero, suc, ◌<◌, List, [], ◌∷◌, map, length, length-append, refl, sym, ap, ◌∙◌, subst, inl, inr, arith, Some}
 use Rattle.std.specs.Option.{option_map}
 use Rattle.std.proofs.lemmas.List.Sorted.{IsPermutation-refl, length_permutation}
 use Rattle.std.proofs.lemmas.Option.{slice_get-get_or, slice_get-map, slice_get_within}
 use Rattle.members_dm.specs.Membership.{IsIn, IsRising, NoRepeats}
 use Rattle.members_dm.proofs.ElementsLemmas.{item_within, one_index, permutation_of_items}
-use Rattle.members_dm.proofs.MembershipLemmas.{IsIn-map, rising-NoRepeats}
+use Rattle.members_dm.proofs.MembershipLemmas.{rising-NoRepeats}
 use Rattle.schema_dm.specs.Naming.{Name, name_at}
 use Rattle.schema_dm.specs.Schemas.{IsTable, no_table, table_at}
 use Rattle.schema_dm.specs.Shapes.{IsBefore}
@@ -16,10 +15,11 @@ use Rattle.schema_dm.proofs.RisingNames.{before_chain}
 use Rattle.table_csv.specs.Cells.{Row, cells_at}
 use Rattle.table_csv.specs.Databases.{Data, IsDatabase, rows_at}
 use Rattle.table_csv.specs.Plain.{IsColumnAt, IsPlain, IsPlainAt, IsPlainTable, PlainTable, plain_column}
-use Rattle.layouts_dm.proofs.Sorting.{in_order_of, name_order}
+use Rattle.layouts_dm.proofs.Choosing.{keys_of, zip_made}
+use Rattle.layouts_dm.proofs.Sorting.{in_order_of, name_order, rising_map}
 use Rattle.layouts_dm.proofs.Unique.{before_one_way}
 use Rattle.graph_layouts_dm.proofs.Views.{numbered}
-use Rattle.graph_layouts_dm.proofs.Stands.{IsIn-numbered, numbered-IsIn}
+use Rattle.graph_layouts_dm.proofs.Stands.{IsIn-numbered}
 use Rattle.graph_layouts_dm.proofs.MapStands.{distinct_one, distinct_upto}
 use Rattle.graph_layouts_dm.proofs.Columns.{column_there, name_at_is, one_place}
 use Rattle.graph_layouts_dm.proofs.Plains.{column_at}
@@ -50,10 +50,6 @@ record Ordered (f : ℕ → Name) (n : ℕ) : Type 0 where
   within : (p : ℕ) → IsIn p places → p < n
   rising : IsRising IsBefore (map f places)
 
-rising_map : (f : ℕ → Name) (ps : List ℕ) → IsRising (λ i j. IsBefore (f i) (f j)) ps → IsRising IsBefore (map f ps)
-rising_map f [] h = tt
-rising_map f (p ∷ ps) h = ((λ y i. let m = IsIn-map f y ps i in subst (IsBefore (f p)) m.2 (h.0 m.0 m.1)), rising_map f ps h.1)
-
 ordered : (f : ℕ → Name) (n : ℕ) → ((i j : ℕ) → i < n → j < n → f i ≡ f j → i ≡ j) → Ordered f n
 ordered f n one =
     let s = in_order_of (λ i j. IsBefore (f i) (f j)) (λ i j k. before_chain (f i) (f j) (f k)) (places_below n) (below_once n)
@@ -67,29 +63,16 @@ ordered f n one =
       rising = rising_map f s.sorted s.rising;
     }
 
--- ---- items at places
-
-items_at : {Y : Type 0} (R : ℕ → Y → Type 0) (ps : List ℕ) → ((p : ℕ) → IsIn p ps → (y : Y) × R p y) → (ys : List Y) × AllZip R ps ys
-items_at R [] made = ([], tt)
-items_at R (p ∷ ps) made = let first = made p (inl refl) in let rest = items_at R ps (λ q i. made q (inr i)) in (first.0 ∷ rest.0, (first.1, rest.1))
-
-names_at : {Y : Type 0} (R : ℕ → Y → Type 0) (f : ℕ → Name) (g : Y → Name) → ((p : ℕ) (y : Y) → R p y → f p ≡ g y) → (ps : List ℕ) (ys : List Y) → AllZip R ps ys → map f ps ≡ map g ys
-names_at R f g same [] [] h = refl
-names_at R f g same [] (y ∷ ys) h = absurd h
-names_at R f g same (p ∷ ps) [] h = absurd h
-names_at R f g same (p ∷ ps) (y ∷ ys) h = let first = same p y h.0 in let rest = names_at R f g same ps ys h.1 in λ i. first i ∷ rest i
-
 -- ---- one table
 
 some_plain_table : (tables : List Table) (table : Table) (rows : List Row) → IsTable tables table → (plain : PlainTable) × IsPlainTable table rows plain
 some_plain_table tables table rows is =
     let o = ordered (name_at table.columns) (length table.columns) (λ i j in_i in_j e. one_place table.columns i j is.distinct in_i in_j e) in
-    let columns = items_at (IsColumnAt table) o.places
+    let columns = zip_made (IsColumnAt table) o.places
     (λ p i. let c = column_there table.columns p (o.within p i) in (plain_column c.0, slice_get-map plain_column table.columns p ∙ ap (option_map plain_column) c.1)) in
     let names : map (name_at table.columns) o.places ≡ map (λ (c : Column). c.name) columns.0 =
-    names_at (IsColumnAt table) (name_at table.columns) (λ (c : Column). c.name)
-    (λ p c h. let f = column_at table p c h in name_at_is table.columns p f.0 f.1 ∙ ap (λ (x : Column). x.name) f.2) o.places columns.0 columns.1 in
-    (
+    keys_of (IsColumnAt table) (name_at table.columns) (λ (c : Column). c.name)
+    (λ p c h. let f = column_at table p c h in name_at_is table.columns p f.0 f.1 ∙ ap (λ (x : Column). x.name) f.2) o.places columns.0 columns.1 in (
       record { shape = record { name = table.name; columns = columns.0 }; rows = map (cells_at o.places) rows },
       record {
         name = refl;
@@ -128,7 +111,7 @@ module _ (D : Data) (database : IsDatabase D) where
   pub some_plain : (plain : List PlainTable) × IsPlain D plain
   some_plain =
       let o = ordered (λ t. (table_at D.tables t).name) (length D.tables) one_table in
-      let tables = items_at (IsPlainAt D) o.places (λ t i. plain_there t (o.within t i)) in
+      let tables = zip_made (IsPlainAt D) o.places (λ t i. plain_there t (o.within t i)) in
       let names : map (λ t. (table_at D.tables t).name) o.places ≡ map (λ (p : PlainTable). p.shape.name) tables.0 =
-      names_at (IsPlainAt D) (λ t. (table_at D.tables t).name) (λ (p : PlainTable). p.shape.name) plain_name o.places tables.0 tables.1 in
+      keys_of (IsPlainAt D) (λ t. (table_at D.tables t).name) (λ (p : PlainTable). p.shape.name) plain_name o.places tables.0 tables.1 in
       (tables.0, record { places = o.places; tables = record { belong = tables.1; once = o.once; each = o.each }; rising = subst (IsRising IsBefore) names o.rising })

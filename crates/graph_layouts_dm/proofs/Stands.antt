@@ -1,24 +1,14 @@
 -- The layout of a database says what its graph says.
 use Rattle.std.proofs.Common.{◌≡◌, ℕ, zero, suc, ◌<◌, refl, sym, ap, ◌∙◌, subst, inl, inr, ◌⊎◌, List, [], ◌∷◌, Some, map, Bool, true, false, cond, arith}
 use Rattle.std.specs.Prelude.{◌≢◌}
-use Rattle.std.specs.Bool.{Decides}
-use Rattle.std.proofs.lemmas.Bool.Decides.{Decides-like, not_from_Decides, eqb_tells}
+use Rattle.std.proofs.lemmas.Bool.Decides.{not_from_Decides, eqb_tells}
 use Rattle.layouts_dm.specs.Layouts.{Class, Holds, Part, property_iri}
-use Rattle.graph_layouts_dm.proofs.Views.{IsClassAt, Views, each_class, if_class, DifferentNodes, KeyView, MapFact, RelationView, cell_where, class_at, key_part, layout_of, located, look_up, node_eq, numbered, pairs_of, rel_part_of, rows_in, upto, view_at}
-use Rattle.facts_dm.specs.Facts.{Fact, Node, a_cell, a_class, a_domain, a_link, a_link_range, a_mark, a_node, a_property, a_range, an_object, blank, iri, link_iri}
-use Rattle.value_dm.specs.Equality.{numbers_decide}
+use Rattle.layouts_dm.proofs.ReadingOff.{node_eq, node_eq-decides}
+use Rattle.graph_layouts_dm.proofs.Views.{IsClassAt, Views, each_class, if_class, DifferentNodes, KeyView, MapFact, RelationView, cell_where, class_at, key_part, layout_of, located, look_up, numbered, pairs_of, rel_part_of, rows_in, upto, view_at}
+use Rattle.facts_dm.specs.Facts.{Fact, Node, a_cell, a_class, a_domain, a_link, a_link_range, a_mark, a_node, a_property, a_range, an_object, link_iri}
 use Rattle.members_dm.specs.Membership.{IsIn}
 use Rattle.members_dm.proofs.MembershipLemmas.{IsIn-append, IsIn-back, IsIn-front, IsIn-map, map-IsIn}
-use Rattle.schema_dm.specs.Naming.{Name, same_name}
-
-pub same_name-decides : (x y : Name) → Decides (same_name x y) (x ≡ y)
-same_name-decides x y = numbers_decide x y
-
-pub node_eq-decides : (x y : Node) → Decides (node_eq x y) (x ≡ y)
-node_eq-decides (iri x) (iri y) = Decides-like _ (λ e. ap iri e) (λ e. cc) (same_name-decides x y)
-node_eq-decides (blank x) (blank y) = Decides-like _ (λ e. ap blank e) (λ e. cc) (same_name-decides x y)
-node_eq-decides (iri x) (blank y) = ((λ h. cc), (λ h. cc))
-node_eq-decides (blank x) (iri y) = ((λ h. cc), (λ h. cc))
+use Rattle.schema_dm.specs.Naming.{Name}
 
 split_lt : (k n : ℕ) → k < suc n → (k ≡ n) ⊎ (k < n)
 split_lt k n h = elim (eqb_tells k n) [ inl e ↦ inl e.1 | inr e ↦ (let d : k ≢ n = e.1 in inr (omega arith)) ]

@@ -1,14 +1,15 @@
 -- What a graph needs of a database: tables by number with their rows, keys and marks, and the layout that they make.
-use Rattle.std.specs.Prelude.{ℕ, zero, suc, ◌≡◌, ◌≢◌, ◌<◌, ◌⊎◌, Bool, true, false, cond, List, [], ◌∷◌, ◌++◌, Option, codes, map}
+use Rattle.std.specs.Prelude.{ℕ, zero, suc, ◌≡◌, ◌≢◌, ◌<◌, ◌⊎◌, Bool, true, cond, List, [], ◌∷◌, ◌++◌, Option, codes, map}
 use Rattle.std.specs.declared.option.Option.TheVariants.{None, Some}
 use Rattle.std.specs.List.Sorted.{IsPermutation}
 use Rattle.layouts_dm.specs.Layouts.{Class, ClassColumn, IsCanonical, IsGoodLink, IsGoodName, Layout, Part, property_iri, reference_link}
-use Rattle.facts_dm.specs.Facts.{Fact, KindText, Link, Node, a_cell, a_class, a_domain, a_link, a_link_range, a_mark, a_node, a_property, a_range, an_object, blank, iri, link_iri, rel_link}
+use Rattle.facts_dm.specs.Facts.{Fact, KindText, Link, Node, a_cell, a_class, a_domain, a_link, a_link_range, a_mark, a_node, a_property, a_range, an_object, link_iri, rel_link}
 use Rattle.members_dm.specs.Membership.{IsIn, IsRising, NoRepeats}
 use Rattle.value_dm.specs.declared.kind.Kind.{Kind}
+use Rattle.layouts_dm.proofs.ReadingOff.{node_eq}
 use Rattle.layouts_dm.specs.LayoutTables.{LiteralTable, in_order, is_before}
 use Rattle.schema_dm.specs.Shapes.{IsBefore}
-use Rattle.schema_dm.specs.Naming.{Name, same_name}
+use Rattle.schema_dm.specs.Naming.{Name}
 use Rattle.names_dm.specs.declared.names.RelName.{RelName}
 
 -- a foreign key: whether row i of its table matches row j of its target
@@ -43,12 +44,6 @@ pub record RelationView : Type 0 where
   pub count : ℕ
   pub left_row : ℕ → ℕ
   pub right_row : ℕ → ℕ
-
-abbrev pub node_eq : Node → Node → Bool
-node_eq (iri x) (iri y) = same_name x y
-node_eq (blank x) (blank y) = same_name x y
-node_eq (iri x) (blank y) = false
-node_eq (blank x) (iri y) = false
 
 -- the lists f 0, f 1, up to f (n - 1), joined
 abbrev pub upto : {X : Type 0} → ℕ → (ℕ → List X) → List X

@@ -1,6 +1,6 @@
 //! The graphs of a database stand for its tables.
 #![tactic(auto)]
 
-mod stands;
+mod laws;
 
-pub use stands::graphs_stand;
+pub use laws::graphs_stand;

@@ -4,8 +4,8 @@ use Rattle.std.specs.Prelude.{◌≢◌, slice_get}
 use Rattle.std.specs.List.{AllZip}
 use Rattle.std.proofs.lemmas.Bool.{cases_lt}
 use Rattle.std.proofs.lemmas.Bool.Decides.{eqb_tells}
-use Rattle.layouts_dm.specs.Rules.{Accepted, Explains, IsClass, ReadOff}
-use Rattle.layouts_dm.specs.Outcomes.{Applies, Cause, NoKeyValue, Passes, SaysAt, TwoTables, TwoValues, Unexplained}
+use Rattle.layouts_dm.specs.Rules.{Accepted, Explained, Explains, IsClass, ReadOff}
+use Rattle.layouts_dm.specs.Outcomes.{Applies, Cause, FirstBad, NoKeyValue, Passes, SaysAt, TwoTables, TwoValues, Unexplained}
 use Rattle.facts_dm.specs.Facts.{Fact, KindText, Link, Node, a_cell, a_class, a_domain, a_link, a_link_range, a_mark, a_node, a_property, a_range, an_object, rel_link, triple_of}
 use Rattle.members_dm.specs.Membership.{IsIn}
 use Rattle.layouts_dm.specs.Layouts.{Layout, cell_fact}
@@ -132,6 +132,14 @@ module _ (base : List ℕ) (laws : NamingLaws base) (G : List Statement) where
   one_cause i TwoTables NoKeyValue h g = absurd (node_link _ _ _ _ _ (one_said i (a_node h.1 h.3) (a_link g.3 (rel_link g.0) g.4) h.7 g.6))
   one_cause i NoKeyValue TwoValues h g = absurd (value_link _ _ _ _ _ _ (one_said i (cell_fact g.1 g.2 g.3 g.5) (a_link h.3 (rel_link h.0) h.4) g.9 h.6))
   one_cause i NoKeyValue TwoTables h g = absurd (node_link _ _ _ _ _ (one_said i (a_node g.1 g.3) (a_link h.3 (rel_link h.0) h.4) g.7 h.6))
+
+  -- the first bad triple, where those before it pass
+  pub first_bad : (i : ℕ) (c : Cause) → ((j : ℕ) → j < i → Passes base G j) → Applies base G i c → FirstBad base G i c
+  first_bad i c before h = record { before = λ j d l. passes_not j (before j l) d; applies = h }
+
+  -- a triple says one fact alone, so it is unexplained where that is
+  pub unexplained : (f : Fact) → ¬ Explains base G f → ¬ Explained base G (triple_of base f)
+  unexplained f n h = n (subst (Explains base G) (sym (laws.one_fact f h.0 h.1)) h.2)
 
   -- what is read off, where every triple passes, is what the graph stands for
   pub stands : (x : Statement) → IsIn x G → ((i : ℕ) → i < length G → Passes base G i) → (L : Layout) → ReadOff base G L → (tables : List PlainTable) → AreOfShape tables

@@ -1,5 +1,6 @@
 -- Layouts: what a graph can say of tables, without their keys (after Sequeda, Arenas and Miranker, On Directly Mapping
--- Relational Databases to RDF and OWL, WWW 2012: information preservation). Tables and columns are named, and rows are nodes.
+-- Relational Databases to RDF and OWL, WWW 2012: information preservation). Tables and columns are named. The rows of
+-- a class are nodes, and those of a relation are pairs of nodes.
 use Rattle.std.specs.Prelude.{ℕ, ◌≡◌, ◌≢◌, ◌⊎◌, ◌++◌, List, [], ◌∷◌, Option, Some, codes, map}
 use Rattle.value_dm.specs.declared.kind.Kind.{Kind}
 use Rattle.value_dm.specs.declared.value.Value.{Value}

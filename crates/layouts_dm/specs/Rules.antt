@@ -1,5 +1,5 @@
--- The rules by which a triple of a graph is explained by the others, and what is read off an accepted graph. `Class t` means
--- that the graph says that the table t is a class, and so on; names are good ones throughout.
+-- The rules by which a triple of a graph is explained by the graph, and what is read off an accepted graph. All names that a
+-- rule speaks of are good ones.
 use Rattle.std.specs.Prelude.{ℕ, ◌≡◌, ◌≢◌, ◌⊎◌, ◌↔◌, List, Some, map}
 use Rattle.value_dm.specs.declared.kind.Kind.{Kind}
 use Rattle.members_dm.specs.Membership.{IsIn, NoRepeats}
@@ -69,7 +69,7 @@ pub record IsReference (base : List ℕ) (G : List Statement) (r : RefName) (t :
   pub columns : (c : Name) → IsIn c r.columns → (k : Kind) × IsColumn base G r.table c k
 
 -- a relation from t to u: of two different columns, named with a column of t and a column of u; its table is no class, it has
--- no other domain, and the graph has no other relation of its table
+-- no other domain, and the graph says of no other relation's name of this table that it is a property, explained or not
 pub record IsRelation (base : List ℕ) (G : List Statement) (q : RelName) (t u : Name) : Type 0 where
   pub two : q.left ≢ q.right
   pub no_class : ¬ IsClass base G q.table
@@ -128,7 +128,7 @@ pub record Accepted (base : List ℕ) (G : List Statement) : Type 0 where
 
 -- ---- what is read off an accepted graph
 
--- the layout has the classes, columns, nodes, cells, links, pairs and marks that the graph says, each once
+-- the layout has the classes, columns, nodes, cells, links and pairs that the graph says, each once, and the marks that it says
 pub record ReadOff (base : List ℕ) (G : List Statement) (L : Layout) : Type 0 where
   pub names : NoRepeats (map (λ c. c.name) L.classes)
   pub classes : (t : Name) → IsClass base G t → HasClass L t

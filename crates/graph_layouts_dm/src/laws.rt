@@ -18,6 +18,5 @@ pub fn graphs_stand(base: &Base, database: &Database)
     ensures map_keys { (triples : List Statement) (plain : List PlainTable) → IsPlain database.now plain → AreTriplesOf MapKeys base.now database.now triples → StandsFor base.now triples plain }
     ensures map { (triples : List Statement) (plain : List PlainTable) → KeepsKeys database.now → IsPlain database.now plain → AreTriplesOf Map base.now database.now triples → StandsFor base.now triples plain }
 {
-    let _text = base.as_str();
-    let _schema = database.schema();
+    database.schema();
 }

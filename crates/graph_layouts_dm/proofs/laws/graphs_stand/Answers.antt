@@ -3,7 +3,7 @@ use Rattle.graphs_dm.proofs.NodeLaws.{own_nodes}
 use Rattle.graph_layouts_dm.proofs.KeysStand.{keys_stand}
 use Rattle.graph_layouts_dm.proofs.MapGraphStands.{map_stands}
 use Rattle.graph_layouts_dm.proofs.SomePlain.{some_plain}
-use Rattle.graph_layouts_dm.proofs.stands.graphs_stand.Goals as goal
+use Rattle.graph_layouts_dm.proofs.laws.graphs_stand.Goals as goal
 
 pub returns-clause-some : goal.returns-clause-some
 returns-clause-some c = some_plain c.args.database.now c.schema.ensures.fits
@@ -18,4 +18,4 @@ pub returns-clause-map : goal.returns-clause-map
 returns-clause-map c = λ triples plain kept is are.
     let base = c.args.base.now in
     let D = c.args.database.now in
-    map_stands base D c.schema.ensures.fits (own_nodes base D c.schema.ensures.fits) plain is kept (kept_matches D c.schema.ensures.fits kept) triples are
+    map_stands base D c.schema.ensures.fits (own_nodes base D c.schema.ensures.fits) plain is kept (kept_matches D c.schema.ensures.fits.schema kept) triples are
