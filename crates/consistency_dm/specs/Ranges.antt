@@ -69,14 +69,14 @@ all_stated (x ∷ triples) = option_to_list (stated x) ++ all_stated triples
 abbrev pub asks_cmp : Asks → Asks → Ordering
 asks_cmp a b = ordering_then (byte_cmp a.property b.property) (option_cmp byte_cmp a.datatype b.datatype)
 
-abbrev pub AreRising : List Asks → Type 0
-AreRising asked = (i j : ℕ) (d : Asks) → i ≤ j → j < length asked → is_lt (asks_cmp (slice_index_or asked j d) (slice_index_or asked i d)) ≡ false
+abbrev pub AreRising : List StatedRange → Type 0
+AreRising ranges = (i j : ℕ) (d : StatedRange) → i ≤ j → j < length ranges → is_lt (asks_cmp (asks_of (slice_index_or ranges j d)) (asks_of (slice_index_or ranges i d))) ≡ false
 
 -- exactly what the triples ask, in rising order
 pub record AreRangesOf (triples : List Statement) (ranges : List StatedRange) : Type 0 where
   pub exact : (a : Asks) → IsIn a (map asks_of ranges) → IsIn a (all_stated triples)
   pub all : (a : Asks) → IsIn a (all_stated triples) → IsIn a (map asks_of ranges)
-  pub rising : AreRising (map asks_of ranges)
+  pub rising : AreRising ranges
 
 -- ---- objects
 

@@ -1,27 +1,31 @@
 // The first triple that is a conflict.
-ghost use Rattle.std.specs.Prelude.{◌≡◌, ◌↔◌, ℕ, IfOk, IsTrue, List};
-ghost use Rattle.names_dm.specs.Statements.{Statement};
+ghost use Rattle.std.specs.Prelude.{◌≡◌, ◌↔◌, ℕ, IfOk, IsTrue, List, not};
+ghost use Rattle.names_dm.specs.Statements.{Statement, is_literal};
 ghost use Rattle.consistency_dm.specs.Conflicts.{IsFirstConflict, IsSameNode, IsVerdict};
 ghost use Rattle.consistency_dm.specs.Interpretations.{HasInterpretation};
-ghost use Rattle.consistency_dm.specs.Ranges.{AreRangesOf, IsKeptOut, IsToldAs};
+ghost use Rattle.consistency_dm.specs.Ranges.{AreRangesOf, AreRising, IsToldAs};
 ghost use Rattle.consistency_dm.specs.declared.verdict.ConflictKind.{ConflictKind as TheKind};
 
-use crate::range::{StatedRange, is_kept_out, ranges_of};
+use crate::range::{StatedRange, has_text, is_kept_out, ranges_of};
 use crate::verdict::{ConflictKind, Verdict};
 use facts_dm::Word;
 use names_dm::Triple;
 use std::alloc::{AllocError, Global};
+use value_dm::same;
 
 // Whether the triple says that a node differs from itself.
 fn is_same_node(triple: &Triple) -> bool
-    ensures { IsTrue result ↔ IsSameNode triple.now }
+    ensures same { IsTrue result ↔ IsSameNode triple.now }
+    ensures node { IsTrue (not (is_literal triple.now.subject)) }
 {
-    triple.predicate().as_str() == Word::OwlDifferentFrom.as_str()
-        && triple.subject() == triple.object()
+    let subject = triple.subject();
+    has_text(triple.predicate(), Word::OwlDifferentFrom.as_str()) && same(subject, triple.object())
 }
 
 fn conflict_of(ranges: &[StatedRange<'_>], triple: &Triple) -> Option<ConflictKind>
-    ensures { (triples : List Statement) → AreRangesOf triples ranges.now → IsToldAs triples triple.now result }
+    requires { AreRising ranges.now }
+    ensures told { (triples : List Statement) → AreRangesOf triples ranges.now → IsToldAs triples triple.now result }
+    ensures node { IsTrue (not (is_literal triple.now.subject)) }
 {
     if is_same_node(triple) {
         Some(ConflictKind::SameNode)

@@ -1,5 +1,6 @@
 // The ranges that triples state, and their look-up.
 ghost use Rattle.std.specs.Prelude.{◌≡◌, ◌≤◌, ◌↔◌, IfOk, IsTrue, List, length, map, not, true, false};
+ghost use Rattle.std.specs.Cmp.Lexicographic.{pointwise};
 ghost use Rattle.std.specs.List.{list_all, starts_with};
 ghost use Rattle.std.specs.Ordering.{is_lt, is_le};
 ghost use Rattle.std.specs.List.Sorted.{IsPartitionPoint, IsPermutation};
@@ -40,6 +41,14 @@ pub struct StatedRange<'a> {
     demand: Demand<'a>,
 }
 
+// Whether the IRI has this text.
+pub fn has_text(iri: &Iri, text: &str) -> bool
+    requires { IsTrue (list_all is_ascii text.now) }
+    ensures { result ≡ pointwise nat_eq iri.now text.now }
+{
+    iri.as_str() == text
+}
+
 fn begins_with(iri: &Iri, namespace: &str) -> bool
     requires { IsTrue (list_all is_ascii namespace.now) }
     ensures { result ≡ starts_with nat_eq iri.now namespace.now }
@@ -73,7 +82,7 @@ fn demand_of(range: &Term) -> Option<Demand<'_>>
 fn stated_range(triple: &Triple) -> Option<StatedRange<'_>>
     ensures { asks_in result ≡ stated triple.now }
 {
-    if triple.predicate().as_str() != Word::RdfsRange.as_str() {
+    if !has_text(triple.predicate(), Word::RdfsRange.as_str()) {
         return None;
     }
     match triple.subject() {
@@ -104,7 +113,7 @@ fn compare_iris(left: &Iri, right: &Iri) -> Ordering
 }
 
 fn compare_demands(left: Demand<'_>, right: Demand<'_>) -> Ordering
-    ensures { result ≡ option_cmp byte_cmp (datatype_of left) (datatype_of right) }
+    ensures { result ≡ option_cmp byte_cmp (datatype_of left.entry) (datatype_of right.entry) }
 {
     match left {
         Demand::Individual => match right {
@@ -129,7 +138,7 @@ fn compare_ranges(left: &StatedRange<'_>, right: &StatedRange<'_>) -> Ordering
 
 fn sort_ranges(ranges: &mut Vec<StatedRange<'_>>)
     ensures moved { IsPermutation ranges.old.items ranges.new.items }
-    ensures rising { AreRising (map asks_of ranges.new.items) }
+    ensures rising { AreRising ranges.new.items }
 {
     ranges.sort_unstable_by(|left, right| compare_ranges(left, right));
 }
@@ -145,7 +154,7 @@ pub fn ranges_of(alloc: Global, triples: &[Triple]) -> Result<Vec<StatedRange<'_
 
 // Where the ranges of the property begin.
 fn start_of(ranges: &[StatedRange<'_>], property: &Iri) -> usize
-    requires { AreRising (map asks_of ranges.now) }
+    requires { AreRising ranges.now }
     ensures bound { result ≤ length ranges.now }
     ensures point { IsPartitionPoint (λ (r : TheRange). is_lt (byte_cmp r.property.now property.now) ≡ true) (λ (r : TheRange). is_lt (byte_cmp r.property.now property.now) ≡ false) ranges.now result }
 {
@@ -154,7 +163,7 @@ fn start_of(ranges: &[StatedRange<'_>], property: &Iri) -> usize
 
 // Where they end.
 fn end_of(ranges: &[StatedRange<'_>], property: &Iri) -> usize
-    requires { AreRising (map asks_of ranges.now) }
+    requires { AreRising ranges.now }
     ensures bound { result ≤ length ranges.now }
     ensures point { IsPartitionPoint (λ (r : TheRange). is_le (byte_cmp r.property.now property.now) ≡ true) (λ (r : TheRange). is_le (byte_cmp r.property.now property.now) ≡ false) ranges.now result }
 {
@@ -165,14 +174,14 @@ fn has_datatype(literal: &Literal, datatype: &Iri) -> bool
     ensures { result ≡ spec.has_datatype literal.now.kind datatype.now }
 {
     match literal.kind() {
-        LiteralType::Plain => datatype.as_str() == XSD_STRING,
-        LiteralType::Typed(own) => datatype.as_str() == own.as_str(),
+        LiteralType::Plain => has_text(datatype, XSD_STRING),
+        LiteralType::Typed(own) => datatype == own,
         LiteralType::Tagged(_) => false,
     }
 }
 
 fn is_let_in(demand: Demand<'_>, object: &Term) -> bool
-    ensures { result ≡ is_let_in (datatype_of demand) object.now }
+    ensures { result ≡ is_let_in (datatype_of demand.entry) object.now }
 {
     match object {
         Term::Literal(literal) => match demand {
@@ -189,13 +198,17 @@ fn is_let_in(demand: Demand<'_>, object: &Term) -> bool
 // Whether one of the ranges of the triple's predicate keeps its object out. The ranges of a property stand in the order of what
 // they ask, so where the first and the last let the object in, all ask the same.
 pub fn is_kept_out(ranges: &[StatedRange<'_>], triple: &Triple) -> bool
+    requires { AreRising ranges.now }
     ensures { (triples : List Statement) → AreRangesOf triples ranges.now → IsTrue result ↔ IsKeptOut triples triple.now }
 {
-    let start = start_of(ranges, triple.predicate());
-    let end = end_of(ranges, triple.predicate());
+    let property = triple.predicate();
+    let start = start_of(ranges, property);
+    let end = end_of(ranges, property);
     if start >= end {
         return false;
     }
     let object = triple.object();
-    !(is_let_in(ranges[start].demand, object) && is_let_in(ranges[end - 1].demand, object))
+    let by_first = is_let_in(ranges[start].demand, object);
+    let by_last = is_let_in(ranges[end - 1].demand, object);
+    !(by_first & by_last)
 }
