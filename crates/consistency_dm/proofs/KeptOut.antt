@@ -127,14 +127,14 @@ module _ (ranges : List StatedRange) (rising : AreRising ranges) (p : List ℕ) 
         let p_last : last.property.now ≡ p = ap (λ (z : StatedRange). z.property.now) (sym (at_last r)) ∙ inside (e - 1) r (omega arith) (omega arith) in
         let one : datatype_of first.demand ≡ datatype_of last.demand = one_demand o _ _ a b in
         let up_first : is_lt (option_cmp byte_cmp (datatype_of r.demand) (datatype_of first.demand)) ≡ false =
-            not_lt_second (byte_cmp r.property.now first.property.now) _ (ap (λ t. byte_cmp t first.property.now) q ∙ ap (λ t. byte_cmp p t) p_first ∙ tied_itself byte_total p)
-            (ap (λ (z : StatedRange). is_lt (asks_cmp (asks_of z) (asks_of first))) (sym (at r)) ∙ ap (λ (z : StatedRange). is_lt (asks_cmp (asks_of (get_or ranges k r)) (asks_of z))) (sym (at_first r)) ∙ rising s k r low within) in
+        not_lt_second (byte_cmp r.property.now first.property.now) _ (ap (λ t. byte_cmp t first.property.now) q ∙ ap (λ t. byte_cmp p t) p_first ∙ tied_itself byte_total p)
+        (ap (λ (z : StatedRange). is_lt (asks_cmp (asks_of z) (asks_of first))) (sym (at r)) ∙ ap (λ (z : StatedRange). is_lt (asks_cmp (asks_of (get_or ranges k r)) (asks_of z))) (sym (at_first r)) ∙ rising s k r low within) in
         let up_last : is_lt (option_cmp byte_cmp (datatype_of last.demand) (datatype_of r.demand)) ≡ false =
-            not_lt_second (byte_cmp last.property.now r.property.now) _ (ap (λ t. byte_cmp t r.property.now) p_last ∙ ap (λ t. byte_cmp p t) q ∙ tied_itself byte_total p)
-            (ap (λ (z : StatedRange). is_lt (asks_cmp (asks_of z) (asks_of r))) (sym (at_last r)) ∙ ap (λ (z : StatedRange). is_lt (asks_cmp (asks_of (get_or ranges (e - 1) r)) (asks_of z))) (sym (at r)) ∙ rising k (e - 1) r (omega arith) (omega arith)) in
+        not_lt_second (byte_cmp last.property.now r.property.now) _ (ap (λ t. byte_cmp t r.property.now) p_last ∙ ap (λ t. byte_cmp p t) q ∙ tied_itself byte_total p)
+        (ap (λ (z : StatedRange). is_lt (asks_cmp (asks_of z) (asks_of r))) (sym (at_last r)) ∙ ap (λ (z : StatedRange). is_lt (asks_cmp (asks_of (get_or ranges (e - 1) r)) (asks_of z))) (sym (at r)) ∙ rising k (e - 1) r (omega arith) (omega arith)) in
         let same : datatype_of r.demand ≡ datatype_of first.demand =
-            datatype_ties _ _ (equal_from (option_cmp byte_cmp) datatypes_total (datatype_of r.demand) (datatype_of first.demand) up_first
-            (ap (λ d. is_lt (option_cmp byte_cmp d (datatype_of r.demand))) one ∙ up_last)) in
+        datatype_ties _ _ (equal_from (option_cmp byte_cmp) datatypes_total (datatype_of r.demand) (datatype_of first.demand) up_first
+        (ap (λ d. is_lt (option_cmp byte_cmp d (datatype_of r.demand))) one ∙ up_last)) in
         ap (λ d. is_let_in d o) same ∙ a
 
     module _ (triples : List Statement) (of : AreRangesOf triples ranges) (x : Statement) (is : x.predicate ≡ p) where
