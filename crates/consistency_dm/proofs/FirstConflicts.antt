@@ -1,5 +1,5 @@
 -- The first conflict, and the verdict.
-use Rattle.std.proofs.Common.{◌≡◌, ◌∙◌, ◌⊎◌, ◌<◌, ◌≤◌, ◌+◌, ℕ, List, length, get_or, Some, None, Bool, true, false, not, refl, sym, ap, subst, inl, inr, ⊎_elim, arith}
+use Rattle.std.proofs.Common.{◌≡◌, ◌∙◌, ◌⊎◌, ◌<◌, ◌≤◌, ◌+◌, ℕ, zero, suc, List, length, get_or, Some, None, Bool, true, false, not, refl, sym, ap, subst, inl, inr, ⊎_elim, arith}
 use Rattle.std.specs.Prelude.{◌↔◌, slice_get}
 use Rattle.std.proofs.lemmas.Bool.{cases_lt}
 use Rattle.std.proofs.lemmas.Option.{slice_get-get_or, slice_get_within}
@@ -99,6 +99,30 @@ module _ (triples : List Statement) where
     (λ q. cc q),
     (λ f. absurd ((all_fine n l fine f.triple (item_at_index f.triple triples f.place f.stands)).1 (conflict_by_kind f.triple kind f.is_conflict))),
   )
+
+  -- ---- that there is a verdict
+
+  -- where no verdict were right, none of the first n triples would be a conflict
+  fine_below : ((v : Verdict) → ¬ IsVerdict triples v) → (n j : ℕ) (x : Statement) → j < n → slice_get triples j ≡ Some x → ¬ IsConflict triples x
+  fine_below none zero j x l s c = let bad : ⊥ = omega arith in bad
+  fine_below none (suc n) j x l s c = by_kind (λ k y m t. fine_below none n k y (omega arith) t) c
+    where
+      first : ((k : ℕ) (y : Statement) → k < j → slice_get triples k ≡ Some y → ¬ IsConflict triples y) → (kind : ConflictKind) → HasKind triples x kind → IsFirstConflict triples (j + 1) kind
+      first before kind h = record { place = j; triple = x; counted = refl; stands = s; is_conflict = h; none_before = before }
+
+      by_kind : ((k : ℕ) (y : Statement) → k < j → slice_get triples k ≡ Some y → ¬ IsConflict triples y) → IsConflict triples x → ⊥
+      by_kind before (inl same) = none (Conflict (j + 1) SameNode) (first before SameNode same)
+      by_kind before (inr out) = none (Conflict (j + 1) Range) (first before Range (out, λ same. none (Conflict (j + 1) SameNode) (first before SameNode same)))
+
+  -- some verdict is right
+  pub verdict_some : ((x : Statement) → IsIn x triples → is_literal x.subject ≡ false) → ¬ ((v : Verdict) → ¬ IsVerdict triples v)
+  verdict_some good none =
+      none Yes (interpretation triples good (λ x i. let (k, m, s) = index_of_item x triples i in fine_below none (length triples) k x m s))
+
+  -- what `consistent` ensures of its verdict
+  pub right_verdict : (v : Verdict) → (v ≡ Yes) ↔ HasInterpretation triples → ((number : ℕ) (kind : ConflictKind) → (v ≡ Conflict number kind) ↔ IsFirstConflict triples number kind) → IsVerdict triples v
+  right_verdict Yes well conflict = well.0 refl
+  right_verdict (Conflict number kind) well conflict = (conflict number kind).0 refl
 
 -- the verdict is one alone
 pub one_verdict : (triples : List Statement) (v w : Verdict) → IsVerdict triples v → IsVerdict triples w → v ≡ w
