@@ -15,3 +15,5 @@ mod Keys
 mod LineTexts
 mod OntologyTexts
 mod LevelStreams
+mod GraphFacts
+pub mod Contradictions

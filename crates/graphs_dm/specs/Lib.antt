@@ -5,6 +5,7 @@ pub mod RowFacts
 pub mod Relations
 pub mod Ontology
 pub mod Graphs
+pub mod Interpreted
 pub mod Plans
 pub mod Levels
 pub mod Heads

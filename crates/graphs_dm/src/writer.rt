@@ -8,6 +8,7 @@ ghost use Rattle.outside_dm.specs.Putting.{Writes};
 ghost use Rattle.pages_dm.specs.Streams.{Streams};
 ghost use Rattle.graphs_dm.specs.Graphs.{HasItsTriples, IsDefined, IsGraphText, MarksViolatingRows, PutsGraph};
 ghost use Rattle.graphs_dm.specs.Heads.{AreAllHeads};
+ghost use Rattle.graphs_dm.specs.Interpreted.{IsInterpretedWhereKept};
 ghost use Rattle.graphs_dm.specs.KeyNodes.{NodesByKeys};
 ghost use Rattle.graphs_dm.specs.Levels.{graph_level, graph_part, relation_row_level, row_level, table_level, tables_level, text_of};
 ghost use Rattle.graphs_dm.specs.OwnNodes.{RowsHaveOwnNodes};
@@ -15,6 +16,7 @@ ghost use Rattle.graphs_dm.specs.Plans.{AreBinaries};
 
 use crate::GraphName;
 use crate::heads::heads_of;
+use crate::interpreted::interpreted_where_kept;
 use crate::ontology::append_ontology;
 use crate::plan::Plan;
 use crate::relations::relation_head;
@@ -310,8 +312,10 @@ pub fn write_map_keys<K: Sink>(
     ensures nodes { RowsHaveOwnNodes base.now database.now }
     ensures keyed { NodesByKeys base.now database.now }
     ensures marks { MarksViolatingRows base.now database.now }
+    ensures interpreted { IsInterpretedWhereKept base.now database.now }
 {
     naming_laws(base);
+    interpreted_where_kept(base, database);
     write_graph(alloc, GraphName::MapKeys, base, database, out)
 }
 
@@ -329,7 +333,9 @@ pub fn write_map_keys_by<K: Sink>(
     ensures nodes { RowsHaveOwnNodes base.now database.now }
     ensures keyed { NodesByKeys base.now database.now }
     ensures marks { MarksViolatingRows base.now database.now }
+    ensures interpreted { IsInterpretedWhereKept base.now database.now }
 {
     naming_laws(base);
+    interpreted_where_kept(base, database);
     put_graph(alloc, GraphName::MapKeys, base, database, indexes, out)
 }

@@ -1,0 +1,5 @@
+mod AskedRanges
+pub mod FirstConflicts
+pub mod Interpreted
+mod KeptOut
+mod Texts
