@@ -59,3 +59,9 @@ pub record IsGraphOf (terms : List Term) (triads : List Triad) (g : GraphValue) 
 -- one of the triples holds the term
 abbrev pub HoldsTerm : GraphValue → Term → Type 0
 HoldsTerm g x = (n : Triad) × Contains g.triples n × Mentions g.terms n x
+
+-- what holds of every graph: each term stands in a triple, each number is a term's, and no term has two numbers
+pub record IsLawful (g : GraphValue) : Type 0 where
+  pub used : AreUsed g.terms g.triples
+  pub named : AreNamed g.terms g.triples
+  pub apart : AreOneToOne g.terms

@@ -1,6 +1,6 @@
 ghost use Rattle.std.specs.Prelude.{◌≡◌, ◌≢◌, ◌↔◌, ◌<◌, ◌≤◌, ◌-◌, ◌^◌, ◌++◌, ◌∷◌, [], ℕ, List, AllPairs, Contains, IfOk, IfSome, IsSome, OnOk, Some, length, map};
 ghost use Rattle.names_dm.specs.Statements.{Statement};
-ghost use Rattle.store_dm.specs.Graphs.{AreNamed, AreNumbered, AreUsed, HasTriple, HoldsTerm, IsGraphOf};
+ghost use Rattle.store_dm.specs.Graphs.{AreNamed, AreNumbered, AreUsed, HasTriple, HoldsTerm, IsGraphOf, IsLawful};
 ghost use Rattle.store_dm.specs.Terms.{AreOneToOne, term_at};
 ghost use Rattle.store_dm.specs.Triads.{FitsAll, IsPrefix};
 ghost use Rattle.store_dm.specs.Turns.{matches_left, turn, turned};
@@ -44,6 +44,14 @@ impl Graph {
             add_triple(&mut terms, &mut triads, triple)?;
         }
         graph_of(alloc, terms, triads)
+    }
+
+    /// How many triples there are. Each term stands in one, and no term has two numbers.
+    pub fn len(&self) -> usize
+        ensures count { result ≡ length self.now.triples }
+        ensures lawful { IsLawful self.now }
+    {
+        self.by_subject.len()
     }
 
     /// The number of a term, None exactly where no triple holds it.

@@ -93,6 +93,12 @@ impl Listing {
         Listing { items }
     }
 
+    pub fn len(&self) -> usize
+        ensures { result ≡ length self.now }
+    {
+        self.items.len()
+    }
+
     /// Those that begin with the numbers of `from` that are not 0, found by halving.
     pub fn range(&self, from: Triad) -> &[Triad]
         requires { IsPrefix from }

@@ -1,0 +1,11 @@
+pub mod Formed
+pub mod Grids
+pub mod Mappings
+pub mod Masks
+pub mod Operators
+pub mod Passing
+pub mod Says
+pub mod Sides
+pub mod Solution
+pub mod Solved
+pub mod Texts

@@ -1,0 +1,33 @@
+-- Rows of numbers as mappings to terms, where 0 is unbound.
+use Rattle.std.specs.Prelude.{◌≡◌, ◌↔◌, ◌<◌, ◌≤◌, ℕ, List, length}
+use Rattle.names_dm.specs.declared.term.Term.{Term}
+use Rattle.solutions_dm.specs.Columns.{number_at}
+use Rattle.solutions_dm.specs.Table.{Table}
+use Rattle.store_dm.specs.Graphs.{GraphValue, HasTriple}
+use Rattle.store_dm.specs.Slots.{AreOnce}
+use Rattle.store_dm.specs.Terms.{term_at}
+use Rattle.pattern_dm.specs.declared.pattern.Pattern.{Pattern}
+use Rattle.pattern_dm.specs.Mappings.{Mapping}
+use Rattle.pattern_dm.specs.Solution.{Solution}
+
+-- the mapping of a row
+abbrev pub mapping_at : List Term → Table → ℕ → Mapping
+mapping_at terms s i x = term_at terms (number_at s.columns i x)
+
+-- one of the rows is this mapping
+abbrev pub HasSolution : List Term → Table → Mapping → Type 0
+HasSolution terms s m = (i : ℕ) × (i < s.rows) × ((x : List ℕ) → m x ≡ mapping_at terms s i x)
+
+-- each number is 0 or a term's
+abbrev pub AreNumbers : List Term → Table → Type 0
+AreNumbers terms s = (i : ℕ) (x : List ℕ) → i < s.rows → number_at s.columns i x ≤ length terms
+
+-- exactly these mappings, each once
+pub record IsOutcome (terms : List Term) (P : Mapping → Type 0) (s : Table) : Type 0 where
+  pub exact : (m : Mapping) → HasSolution terms s m ↔ P m
+  pub once : AreOnce s
+  pub numbers : AreNumbers terms s
+
+-- exactly the solutions of the pattern, each once
+abbrev pub IsSolved : GraphValue → Pattern → Table → Type 0
+IsSolved g p s = IsOutcome g.terms (Solution (HasTriple g) p) s
