@@ -13,5 +13,3 @@ pub use cleaning::clean;
 pub use keeping::kept;
 pub use removal::{Removal, Removals};
 
-#[cfg(test)]
-mod tests;

@@ -17,5 +17,3 @@ pub use writer::{
     write_direct, write_direct_by, write_map, write_map_by, write_map_keys, write_map_keys_by,
 };
 
-#[cfg(test)]
-mod tests;

@@ -16,5 +16,3 @@ pub use lawful::lawful_triple;
 pub use laws::{one_meaning, written_text};
 pub use lines::read_graph;
 
-#[cfg(test)]
-mod tests;
