@@ -16,4 +16,4 @@ mod LineTexts
 mod OntologyTexts
 mod LevelStreams
 mod GraphFacts
-mod Contradictions
+pub mod Contradictions
