@@ -1,6 +1,7 @@
--- Interpretations of triples, by which a list of triples can contradict itself. The words of the vocabularies mean what they do
--- in OWL 2, Direct Semantics, sections 2.3.2, 2.3.3 and 2.3.6, and in RDF Schema 1.1, in outline: whether a literal's text fits
--- its datatype isn't looked at.
+-- Interpretations of triples, by which a list of triples can contradict itself. The meaning is this project's own, after OWL 2,
+-- Direct Semantics, sections 2.3.2, 2.3.3 and 2.3.6, in outline, and says less or more than that in these: datatypes differ
+-- where their IRIs do, so an integer is no decimal; whether a literal's text fits its datatype isn't looked at; rdfs:Literal asks
+-- nothing; and a range outside the xsd, rdf and rdfs namespaces is a class, never a datatype.
 use Rattle.std.specs.Prelude.{ℕ, ◌≡◌, ◌≢◌, ◌⊎◌, ◌||◌, List, if◌then◌else◌, nat_eq}
 use Rattle.std.specs.List.{starts_with}
 use Rattle.members_dm.specs.Membership.{IsIn}

@@ -36,9 +36,13 @@ fn conflict_of(ranges: &[StatedRange<'_>], triple: &Triple) -> Option<ConflictKi
     }
 }
 
-/// Whether some interpretation satisfies all the triples (after OWL 2, Direct Semantics, and RDF Schema 1.1), or else the first
-/// triple that is a conflict: its number, counted from 1 with repeats, and its kind. A triple that is a conflict of both kinds
-/// is told as `SameNode`. Refused for want of memory alone. Takes n log n comparisons for n triples.
+/// Whether some interpretation satisfies all the triples, or else the first triple that is a conflict: its number, counted from 1
+/// with repeats, and its kind. A triple that is a conflict of both kinds is told as `SameNode`.
+///
+/// What interpretations are is this project's own, after OWL 2, Direct Semantics, section 2.3: rdf:type, rdfs:domain,
+/// rdfs:range and owl:differentFrom have their meaning, datatypes differ where their IRIs do, and no literal's text is looked at.
+///
+/// Refused for want of memory alone. Takes n log n comparisons for n triples, whatever they are.
 pub fn consistent(alloc: Global, triples: &[Triple]) -> Result<Verdict, AllocError>
     ensures yes { IfOk result (λ verdict. (verdict ≡ Verdict.Yes) ↔ HasInterpretation triples.now) }
     ensures conflict { IfOk result (λ verdict. (number : ℕ) (kind : TheKind) → (verdict ≡ Verdict.Conflict number kind) ↔ IsFirstConflict triples.now number kind) }
