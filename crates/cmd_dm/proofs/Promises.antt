@@ -29,9 +29,8 @@ use Rattle.consistency_dm.specs.declared.verdict.Verdict.{Verdict}
 use Rattle.keys_dm.specs.Violations.{ViolatesAt}
 use Rattle.keys_dm.specs.declared.violation.Violation.{Violation}
 use Rattle.keys_dm.proofs.DatabaseLevels.{none_listed}
-use Rattle.facts_dm.proofs.NamingInstance.{naming_laws}
 use Rattle.graphs_dm.specs.Graphs.{IsGraphText}
-use Rattle.graphs_dm.proofs.Contradictions.{interpreted_where_kept}
+use Rattle.graphs_dm.proofs.Contradictions.{interpreted_below}
 use Rattle.graphs_dm.specs.declared.graph_name.GraphName.{GraphName}
 use Rattle.graphs_dm.specs.declared.graph_name.GraphName.TheVariants as graph
 use Rattle.cmd_dm.specs.Check.{check_script, check_text}
@@ -307,7 +306,7 @@ writes_graph graph.Map base folder nulls status ends = λ files D told good held
 writes_graph graph.MapKeys base folder nulls status ends = λ files D told good held.
     record {
       writes = writes_text (IsGraphText graph.MapKeys base D) (graph_script graph.MapKeys base folder nulls) status files ends told (behind_database graph.MapKeys base folder nulls files D good held);
-      contradicts = interpreted_where_kept base good (naming_laws base good) D (held_database files folder nulls D held);
+      contradicts = interpreted_below base good D (held_database files folder nulls D held);
     }
 
 checks : (folder : List ℕ) (nulls : NullMode) (files : Files) (D : Data) {s t : ShelfState} {o p : SinkState} (status : Status) →
