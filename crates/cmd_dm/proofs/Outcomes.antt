@@ -26,9 +26,10 @@ use Rattle.ntriples_reader_dm.specs.declared.fault.GraphError.{GraphError}
 use Rattle.ntriples_reader_dm.specs.declared.fault.GraphError.TheVariants as graph
 use Rattle.ntriples_reader_dm.proofs.Cuts.{triples_one}
 use Rattle.ntriples_reader_dm.proofs.OneAnswer.{one_answer}
+use Rattle.consistency_dm.proofs.FirstConflicts.{one_verdict}
 use Rattle.keys_dm.specs.Violations.{ViolatesAt}
 use Rattle.graphs_dm.proofs.GraphLevels.{graph_text_unique}
-use Rattle.cmd_dm.specs.Questions.{Question, AnswerTo, Answers, IsSchemaAnswer, IsRowsAnswer, IsTriplesAnswer, schema_of, rows_of, triples_of, violations_of, graph_of}
+use Rattle.cmd_dm.specs.Questions.{Question, AnswerTo, Answers, IsSchemaAnswer, IsRowsAnswer, IsTriplesAnswer, schema_of, rows_of, triples_of, verdict_of, violations_of, graph_of}
 use Rattle.cmd_dm.specs.Reasons.{ddl_status, graph_status, table_status}
 use Rattle.cmd_dm.specs.Script.{Script, Outcome, too_long, load, ask, refuse, write, AfterLoad, Comes}
 use Rattle.cmd_dm.specs.declared.status.File.{File}
@@ -128,6 +129,7 @@ answer_unique (schema_of bytes) a b h k = schema_answer_unique bytes a b h k
 answer_unique (rows_of columns mode number bytes) a b h k = rows_answer_unique columns mode number bytes a b h.0 h.1 k.1
 answer_unique (violations_of D) a b h k = listing_unique (ViolatesAt D) a b h k
 answer_unique (triples_of bytes) a b h k = triples_answer_unique bytes a b h k
+answer_unique (verdict_of triples) a b h k = one_verdict triples a b h k
 answer_unique (graph_of name base D) a b h k = graph_text_unique name base D a b h k
 
 after_load_unique : (file : File) (content : Option (List ℕ)) (rest : List ℕ → Outcome → Type 0) →

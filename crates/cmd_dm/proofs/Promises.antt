@@ -1,10 +1,11 @@
 -- What follows of how a run ended for the words as a whole.
 use Rattle.std.proofs.Common.{◌≡◌, ◌∙◌, refl, sym, ap, subst, inl, inr, ◌⊎◌, ℕ, ◌+◌, ◌≤◌, List, [], ◌∷◌, length, Option, Some, None, Result, Ok, Err, true, false, Bool, cond}
 use Rattle.std.specs.Prelude.{IsTrue, IfSome, MatchBool, encode_utf8_all}
-use Rattle.std.specs.List.{flat_map}
+use Rattle.std.specs.List.{AllZip, flat_map}
 use Rattle.std.specs.FinMap.{get}
 use Rattle.std.specs.Io.KnownBytes.{Appends}
 use Rattle.std.proofs.lemmas.Bool.{le-ltb}
+use Rattle.members_dm.specs.Membership.{IsIn, NoRepeats}
 use Rattle.members_dm.specs.Places.{IsListing}
 use Rattle.members_dm.proofs.PlacesLemmas.{listing_unique}
 use Rattle.value_dm.specs.declared.mode.NullMode.{NullMode}
@@ -12,32 +13,43 @@ use Rattle.names_dm.specs.Namespaces.{is_base}
 use Rattle.names_dm.specs.Statements.{Statement}
 use Rattle.ntriples_dm.specs.Written.{triple_text}
 use Rattle.ntriples_reader_dm.specs.Document.{IsDocument, limit}
+use Rattle.schema_dm.specs.Naming.{column_names}
 use Rattle.schema_dm.specs.declared.table.Table.{Table}
 use Rattle.outside_dm.specs.Shelves.{Files, ShelfState, longest}
 use Rattle.outside_dm.specs.Sinks.{SinkState}
 use Rattle.table_csv.specs.Cells.{Row}
 use Rattle.table_csv.specs.Databases.{Data}
+use Rattle.table_csv.specs.Cells.{AreRowsOf}
+use Rattle.table_csv.specs.Databases.{IsDatabase}
+use Rattle.table_csv.specs.TableFiles.{records_of}
+use Rattle.table_csv.proofs.FittingRows.{read_rows_fit}
+use Rattle.table_csv.proofs.HeaderLemmas.{fields_differ}
+use Rattle.consistency_dm.specs.Conflicts.{IsVerdict}
+use Rattle.consistency_dm.specs.declared.verdict.Verdict.{Verdict}
 use Rattle.keys_dm.specs.Violations.{ViolatesAt}
 use Rattle.keys_dm.specs.declared.violation.Violation.{Violation}
 use Rattle.keys_dm.proofs.DatabaseLevels.{none_listed}
 use Rattle.graphs_dm.specs.Graphs.{IsGraphText}
+use Rattle.graphs_dm.proofs.Contradictions.{interpreted_below}
 use Rattle.graphs_dm.specs.declared.graph_name.GraphName.{GraphName}
 use Rattle.graphs_dm.specs.declared.graph_name.GraphName.TheVariants as graph
 use Rattle.cmd_dm.specs.Check.{check_script, check_text}
+use Rattle.cmd_dm.specs.Consistent.{consistent_script, verdict_text}
 use Rattle.cmd_dm.specs.Show.{show_script}
 use Rattle.cmd_dm.specs.GraphScript.{graph_script}
 use Rattle.cmd_dm.specs.Ending.{Ends, NoFault, Target, to_output}
 use Rattle.cmd_dm.specs.Folder.{schema_file, table_file}
-use Rattle.cmd_dm.specs.Headline.{HoldsFile, HoldsTables, HoldsDatabase, EndsSo, WritesText, WritesKept, WritesFolder, Checks, Shows, Promises}
+use Rattle.cmd_dm.specs.Headline.{HoldsFile, HoldsTables, HoldsDatabase, EndsSo, WritesText, WritesKept, WritesFolder, Checks, Shows, Judges, Promises}
 use Rattle.cmd_dm.specs.Plans.{IsOutcome, NamesFile, folder_file, graph_file, plan_of}
-use Rattle.cmd_dm.specs.Questions.{violations_of, graph_of}
+use Rattle.cmd_dm.specs.Questions.{violations_of, verdict_of, graph_of}
 use Rattle.cmd_dm.specs.Reasons.{bad_base, key_reason}
 use Rattle.cmd_dm.specs.Script.{Script, Work, Outcome, usage, refused, done, text_work, too_long, status_of, Comes, AfterLoad, MayLoad, ask, write, refuse}
 use Rattle.cmd_dm.specs.Steps.{base_step, schema_step, rows_step, tables_step, database_step, graph_step, kept_step, keys_step, triples_step, on_answer, on_violations}
 use Rattle.cmd_dm.proofs.Endings.{ends_exact, status_comes}
 use Rattle.cmd_dm.proofs.Outcomes.{outcome_unique, schema_answer_unique, rows_answer_unique, triples_answer_unique}
+use Rattle.cmd_dm.proofs.SomeOutcome.{declared_schema}
 use Rattle.cmd_dm.specs.declared.command.Command.{Command}
-use Rattle.cmd_dm.specs.declared.command.Command.TheVariants.{Direct, Map, MapKeys, Check, Show}
+use Rattle.cmd_dm.specs.declared.command.Command.TheVariants.{Direct, Map, MapKeys, Check, Show, Consistent}
 use Rattle.cmd_dm.specs.declared.status.File.{File}
 use Rattle.cmd_dm.specs.declared.status.File.TheVariants.{Schema, Table as TableFile, Query, Graph, Pattern, More}
 use Rattle.cmd_dm.specs.declared.status.Reason.{Reason}
@@ -143,6 +155,10 @@ graph_names graph_name base folder nulls file name h =
     folder_names folder nulls (mapped graph_name base) file name (λ D file. kept_loads_nothing graph_name D (λ _. put_script graph_name base D) file name (λ h. h.1.1))
     (base_may_load (is_base base) (database_step folder nulls (mapped graph_name base)) file name h)
 
+-- what is done behind the triples
+abbrev judged : List Statement → Script
+judged triples = ask (verdict_of triples) (λ verdict. write (text_work (verdict_text verdict)))
+
 -- behind the graph nothing is loaded
 graph_may_load : (document : List ℕ) (next : List Statement → Script) (file : File) (name : List ℕ) → ((triples : List Statement) → ¬ MayLoad (next triples) file name) → MayLoad (graph_step document next) file name →
     (file ≡ Graph) × (name ≡ encode_utf8_all document)
@@ -165,6 +181,7 @@ command_names (Map base folder nulls) file name h = graph_names graph.Map base f
 command_names (MapKeys base folder nulls) file name h = graph_names graph.MapKeys base folder nulls file name h
 command_names (Show document) file name h =
     show_names document file name (graph_may_load document (λ triples. write (text_work (flat_map triple_text triples))) file name (λ triples k. k) h)
+command_names (Consistent document) file name h = show_names document file name (graph_may_load document judged file name (λ triples k. k.1.1) h)
 command_names (Check folder nulls) file name h = folder_names folder nulls checked file name (λ D file h. h.1.1) h
 
 -- the file at which the shelf failed is the one that was told
@@ -239,6 +256,20 @@ writes_text IsText script {s = s} {t = t} {o = o} {p = p} status files ends told
     done_one : (v w : Work) → ◌≡◌ {A = Outcome} (done v) (done w) → v ≡ w
     done_one v w e = cc
 
+-- well-formed files are a database
+held_rows : (files : Files) (folder : List ℕ) (mode : NullMode) (tables : List Table) (rows : List (List Row)) → ((t : Table) → IsIn t tables → NoRepeats (column_names t.columns)) → HoldsTables files folder mode tables rows
+    → AllZip (λ table rows. AreRowsOf table.columns rows) tables rows
+held_rows files folder mode [] [] distinct held = tt
+held_rows files folder mode [] (r ∷ rows) distinct held = absurd held
+held_rows files folder mode (t ∷ tables) [] distinct held = absurd held
+held_rows files folder mode (t ∷ tables) (r ∷ rows) distinct held =
+    (read_rows_fit t.columns mode (records_of held.0.bytes) r (fields_differ t.columns (distinct t (inl refl))) held.0.reads, held_rows files folder mode tables rows (λ u m. distinct u (inr m)) held.1)
+
+held_database : (files : Files) (folder : List ℕ) (mode : NullMode) (D : Data) → HoldsDatabase files folder mode D → IsDatabase D
+held_database files folder mode D held =
+    let schema = declared_schema held.bytes D.tables held.reads in
+    record { schema = schema; rows = held_rows files folder mode D.tables D.rows (λ t m. (schema.each t m).distinct) held.tables }
+
 -- from well-formed files a command comes to what it does behind the database
 behind_database : (name : GraphName) (base folder : List ℕ) (nulls : NullMode) (files : Files) (D : Data) → IsTrue (is_base base) → HoldsDatabase files folder nulls D → (outcome : Outcome) →
     Comes files (graph_script name base folder nulls) outcome → Comes files (mapped name base D) outcome
@@ -273,7 +304,10 @@ writes_graph graph.Direct base folder nulls status ends = λ files D told good h
 writes_graph graph.Map base folder nulls status ends = λ files D told good held.
     writes_kept graph.Map base folder nulls files D (behind_database graph.Map base folder nulls files D good held) status ends told
 writes_graph graph.MapKeys base folder nulls status ends = λ files D told good held.
-    writes_text (IsGraphText graph.MapKeys base D) (graph_script graph.MapKeys base folder nulls) status files ends told (behind_database graph.MapKeys base folder nulls files D good held)
+    record {
+      writes = writes_text (IsGraphText graph.MapKeys base D) (graph_script graph.MapKeys base folder nulls) status files ends told (behind_database graph.MapKeys base folder nulls files D good held);
+      contradicts = interpreted_below base good D (held_database files folder nulls D held);
+    }
 
 checks : (folder : List ℕ) (nulls : NullMode) (files : Files) (D : Data) {s t : ShelfState} {o p : SinkState} (status : Status) →
     Ends to_output (check_script folder nulls) s t o p status → s.files ≡ Some files → HoldsDatabase files folder nulls D → Checks D s t o p status
@@ -292,10 +326,21 @@ shows document files bytes triples status ends told held is few =
     let right = triples_answer_unique bytes asked.0 (Ok triples) asked.1.0 (is, few) in
     (flat_map triple_text triples, (refl, on_known files asked.0 triples next outcome right asked.1.1)))
 
+judges : (document : List ℕ) (files : Files) (bytes : List ℕ) (triples : List Statement) {s t : ShelfState} {o p : SinkState} (status : Status) → Ends to_output (consistent_script document) s t o p status →
+    s.files ≡ Some files → HoldsFile files (encode_utf8_all document) bytes → IsDocument bytes triples → length triples ≤ limit → Judges triples s t o p status
+unfolding graph_step triples_step
+judges document files bytes triples status ends told held is few =
+    writes_text (λ text. (verdict : Verdict) × IsVerdict triples verdict × (text ≡ verdict_text verdict)) (consistent_script document) status files ends told (λ outcome h.
+    let asked = after_load Graph (get files (encode_utf8_all document)) bytes (λ bytes. Comes files (triples_step bytes judged) outcome) outcome held.held held.short h in
+    let right = triples_answer_unique bytes asked.0 (Ok triples) asked.1.0 (is, few) in
+    let found = on_known files asked.0 triples judged outcome right asked.1.1 in
+    (verdict_text found.0, ((found.0, found.1.0, refl), found.1.1)))
+
 -- each command keeps its promise
 pub promised : (command : Command) {s t : ShelfState} {o p : SinkState} (status : Status) → Ends (plan_of command).target (plan_of command).script s t o p status → Promises command s t o p status
 promised (Direct base folder nulls) status ends = writes_graph graph.Direct base folder nulls status ends
 promised (Map base folder nulls) status ends = writes_graph graph.Map base folder nulls status ends
 promised (MapKeys base folder nulls) status ends = writes_graph graph.MapKeys base folder nulls status ends
 promised (Show document) status ends = λ files bytes triples told held is few. shows document files bytes triples status ends told held is few
+promised (Consistent document) status ends = λ files bytes triples told held is few. judges document files bytes triples status ends told held is few
 promised (Check folder nulls) status ends = λ files D told held. checks folder nulls files D status ends told held

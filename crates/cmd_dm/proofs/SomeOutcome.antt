@@ -35,6 +35,7 @@ use Rattle.table_csv.specs.declared.fault.TableError.TheVariants as table
 use Rattle.table_csv.proofs.FittingRows.{read_rows_fit}
 use Rattle.table_csv.proofs.HeaderLemmas.{fields_differ}
 use Rattle.table_csv.proofs.SomeAnswer.{file_some}
+use Rattle.consistency_dm.proofs.FirstConflicts.{verdict_some}
 use Rattle.keys_dm.specs.declared.violation.Violation.{Violation}
 use Rattle.keys_dm.proofs.DatabaseLevels.{none_listed}
 use Rattle.keys_dm.proofs.SomeListing.{violations_some}
@@ -46,14 +47,16 @@ use Rattle.graphs_dm.proofs.GraphLevels.{some_text}
 use Rattle.cmd_dm.specs.Folder.{schema_file, table_file}
 use Rattle.cmd_dm.specs.GraphScript.{graph_script}
 use Rattle.cmd_dm.specs.Plans.{IsOutcome}
-use Rattle.cmd_dm.specs.Questions.{IsSchemaAnswer, IsRowsAnswer, IsTriplesAnswer, graph_of, violations_of}
+use Rattle.cmd_dm.specs.Questions.{IsSchemaAnswer, IsRowsAnswer, IsTriplesAnswer, graph_of, verdict_of, violations_of}
 use Rattle.cmd_dm.specs.Reasons.{bad_base, cause_code, key_reason, reason}
 use Rattle.cmd_dm.specs.Script.{Script, Outcome, usage, refused, absent, too_long, done, text_work, AfterLoad, Comes, ask, refuse, write}
 use Rattle.cmd_dm.specs.Steps.{base_step, database_step, graph_step, kept_step, keys_step, on_answer, on_violations, rows_step, schema_step, tables_step, triples_step}
 use Rattle.cmd_dm.specs.Check.{check_text}
+use Rattle.cmd_dm.specs.Consistent.{consistent_script, verdict_text}
 use Rattle.cmd_dm.specs.Show.{show_script}
 use Rattle.cmd_dm.specs.declared.command.Command.{Command}
-use Rattle.cmd_dm.specs.declared.command.Command.TheVariants.{Direct, Map, MapKeys, Check, Show}
+use Rattle.cmd_dm.proofs.Subjects.{document_subjects}
+use Rattle.cmd_dm.specs.declared.command.Command.TheVariants.{Direct, Map, MapKeys, Check, Show, Consistent}
 use Rattle.cmd_dm.specs.declared.status.File.{File}
 use Rattle.cmd_dm.specs.declared.status.File.TheVariants.{Schema, Table as TableFile, Graph}
 use Rattle.cmd_dm.specs.declared.status.Reason.{Reason}
@@ -161,7 +164,7 @@ tables_some files folder mode before (t ∷ tables) next distinct some none =
     on_rows bytes differ step further (Err why) right none = none (refused why) refl
 
 -- tables that are declared are a schema
-declared_schema : (bytes : List ℕ) (tables : List Table) → IsDdl bytes tables → IsSchema tables
+pub declared_schema : (bytes : List ℕ) (tables : List Table) → IsDdl bytes tables → IsSchema tables
 declared_schema bytes tables h = subst IsSchema (sym h.2.2) (lawful_schema (drafts_of h.0) h.2.1)
 
 database_some : (files : Files) (folder : List ℕ) (mode : NullMode) (next : Data → Script) → ((D : Data) → IsDatabase D → SomeComes files (next D)) → SomeComes files (database_step folder mode next)
@@ -224,6 +227,19 @@ show_some files name none =
     on_triples next (Ok triples) none = none (done (text_work (flat_map triple_text triples))) refl
     on_triples next (Err why) none = none (refused why) refl
 
+consistent_some : (files : Files) (name : List ℕ) → SomeComes files (consistent_script name)
+unfolding graph_step triples_step
+consistent_some files name none =
+    let judge : List Statement → Script = λ triples. ask (verdict_of triples) (λ verdict. write (text_work (verdict_text verdict))) in
+    some_loaded Graph (get files (encode_utf8_all name)) (λ bytes o. Comes files (triples_step bytes judge) o)
+    (λ bytes none. triples_answer_some bytes (λ answer right. on_triples bytes answer right (λ o comes. none o (answer, (right, comes))))) none
+  where
+    on_triples : (bytes : List ℕ) (answer : Result (List Statement) Reason) → IsTriplesAnswer bytes answer
+        → SomeComes files (on_answer answer (λ triples. ask (verdict_of triples) (λ verdict. write (text_work (verdict_text verdict)))))
+    on_triples bytes (Ok triples) right none =
+        verdict_some triples (document_subjects (lines bytes) triples right.0) (λ verdict is. none (done (text_work (verdict_text verdict))) (verdict, (is, refl)))
+    on_triples bytes (Err why) right none = none (refused why) refl
+
 -- something comes of words
 pub words_some : (files : Files) (command : Option Command) → ¬ ((outcome : Outcome) → ¬ IsOutcome files command outcome)
 words_some files None none = none usage refl
@@ -231,6 +247,7 @@ words_some files (Some (Direct base folder nulls)) none = graph_some files graph
 words_some files (Some (Map base folder nulls)) none = graph_some files graph.Map base folder nulls none
 words_some files (Some (MapKeys base folder nulls)) none = graph_some files graph.MapKeys base folder nulls none
 words_some files (Some (Show name)) none = show_some files name none
+words_some files (Some (Consistent name)) none = consistent_some files name none
 words_some files (Some (Check folder nulls)) none =
     database_some files folder nulls (λ D. ask (violations_of D) (λ found. write (text_work (check_text D.tables found))))
     (λ D database none. violations_some D (λ found listed. none (done (text_work (check_text D.tables found))) (found, (listed, refl)))) none

@@ -18,15 +18,19 @@ use Rattle.keys_dm.specs.Violations.{KeepsKeys, ViolatesAt}
 use Rattle.keys_dm.specs.declared.violation.Violation.{Violation}
 use Rattle.ntriples_dm.specs.Written.{triple_text}
 use Rattle.ntriples_reader_dm.specs.Document.{IsDocument, limit}
+use Rattle.consistency_dm.specs.Conflicts.{IsVerdict}
+use Rattle.consistency_dm.specs.declared.verdict.Verdict.{Verdict}
 use Rattle.graphs_dm.specs.Graphs.{IsGraphText}
+use Rattle.graphs_dm.specs.Interpreted.{IsInterpretedWhereKept}
 use Rattle.graphs_dm.specs.declared.graph_name.GraphName.{GraphName}
 use Rattle.graphs_dm.specs.declared.graph_name.GraphName.TheVariants as graph
 use Rattle.cmd_dm.specs.Check.{check_text}
+use Rattle.cmd_dm.specs.Consistent.{verdict_text}
 use Rattle.cmd_dm.specs.Ending.{NoFault}
 use Rattle.cmd_dm.specs.Folder.{schema_file, table_file}
 use Rattle.cmd_dm.specs.Reasons.{key_reason}
 use Rattle.cmd_dm.specs.declared.command.Command.{Command}
-use Rattle.cmd_dm.specs.declared.command.Command.TheVariants.{Direct, Map, MapKeys, Check, Show}
+use Rattle.cmd_dm.specs.declared.command.Command.TheVariants.{Direct, Map, MapKeys, Check, Show, Consistent}
 use Rattle.cmd_dm.specs.declared.status.Status.{Status}
 use Rattle.cmd_dm.specs.declared.status.Status.TheVariants.{Ok as Done, Refused, Memory}
 
@@ -69,11 +73,16 @@ pub record WritesKept (name : GraphName) (base : List ℕ) (D : Data) (old new :
   pub kept : KeepsKeys D → WritesText (IsGraphText name base D) old new before after status
   pub violated : (first : Violation) (others : List Violation) → IsListing (ViolatesAt D) (first ∷ others) → EndsSo (Refused (key_reason first)) old new before after status
 
+-- the text of the map-keys graph is written, whose triples have an interpretation exactly where no key is violated
+pub record WritesMarked (base : List ℕ) (D : Data) (old new : ShelfState) (before after : SinkState) (status : Status) : Type 0 where
+  pub writes : WritesText (IsGraphText graph.MapKeys base D) old new before after status
+  pub contradicts : IsInterpretedWhereKept base D
+
 -- `direct` and `map` write their graphs where no key is violated, and `map-keys` its graph of every database
 abbrev pub WritesGraph : GraphName → List ℕ → Data → ShelfState → ShelfState → SinkState → SinkState → Status → Type 0
 WritesGraph graph.Direct base D old new before after status = WritesKept graph.Direct base D old new before after status
 WritesGraph graph.Map base D old new before after status = WritesKept graph.Map base D old new before after status
-WritesGraph graph.MapKeys base D old new before after status = WritesText (IsGraphText graph.MapKeys base D) old new before after status
+WritesGraph graph.MapKeys base D old new before after status = WritesMarked base D old new before after status
 
 -- and that where the shelf tells files that are well-formed, and the base is one that IRIs can begin with
 abbrev pub WritesFolder : GraphName → List ℕ → List ℕ → NullMode → ShelfState → ShelfState → SinkState → SinkState → Status → Type 0
@@ -89,6 +98,11 @@ Checks D old new before after status =
 abbrev pub Shows : List Statement → ShelfState → ShelfState → SinkState → SinkState → Status → Type 0
 Shows triples old new before after status = WritesText (λ text. text ≡ flat_map triple_text triples) old new before after status
 
+-- `consistent`: the line of the one right verdict on the triples is written
+abbrev pub Judges : List Statement → ShelfState → ShelfState → SinkState → SinkState → Status → Type 0
+Judges triples old new before after status =
+    WritesText (λ text. (verdict : Verdict) × IsVerdict triples verdict × (text ≡ verdict_text verdict)) old new before after status
+
 -- what each command promises where the shelf tells its files and they are well-formed
 abbrev pub Promises : Command → ShelfState → ShelfState → SinkState → SinkState → Status → Type 0
 Promises (Direct base folder nulls) old new before after status = WritesFolder graph.Direct base folder nulls old new before after status
@@ -99,3 +113,6 @@ Promises (Check folder nulls) old new before after status =
 Promises (Show name) old new before after status =
     (files : Files) (bytes : List ℕ) (triples : List Statement) → old.files ≡ Some files → HoldsFile files (encode_utf8_all name) bytes → IsDocument bytes triples → length triples ≤ limit
     → Shows triples old new before after status
+Promises (Consistent name) old new before after status =
+    (files : Files) (bytes : List ℕ) (triples : List Statement) → old.files ≡ Some files → HoldsFile files (encode_utf8_all name) bytes → IsDocument bytes triples → length triples ≤ limit
+    → Judges triples old new before after status

@@ -11,5 +11,6 @@ pub mod Folder
 pub mod GraphScript
 pub mod Check
 pub mod Show
+pub mod Consistent
 pub mod Plans
 pub mod Headline

@@ -16,6 +16,8 @@ use Rattle.table_csv.specs.Cells.{Row}
 use Rattle.table_csv.specs.Databases.{Data}
 use Rattle.table_csv.specs.TableFiles.{IsFirstFault, IsTableFile, records_of}
 use Rattle.table_csv.specs.declared.fault.TableError.{TableError}
+use Rattle.consistency_dm.specs.Conflicts.{IsVerdict}
+use Rattle.consistency_dm.specs.declared.verdict.Verdict.{Verdict}
 use Rattle.keys_dm.specs.Violations.{ViolatesAt}
 use Rattle.keys_dm.specs.declared.violation.Violation.{Violation}
 use Rattle.graphs_dm.specs.Graphs.{IsGraphText}
@@ -33,6 +35,8 @@ pub data Question : Type 0 where
   violations_of : Data → Question
   -- the triples of the bytes
   triples_of : List ℕ → Question
+  -- whether the triples contradict themselves
+  verdict_of : List Statement → Question
   -- the text of the graph of this name
   graph_of : GraphName → List ℕ → Data → Question
 
@@ -42,6 +46,7 @@ AnswerTo (schema_of bytes) = Result (List Table) Reason
 AnswerTo (rows_of columns mode number bytes) = Result (List Row) Reason
 AnswerTo (violations_of D) = List Violation
 AnswerTo (triples_of bytes) = Result (List Statement) Reason
+AnswerTo (verdict_of triples) = Verdict
 AnswerTo (graph_of name base D) = List ℕ
 
 abbrev pub IsSchemaAnswer : List ℕ → Result (List Table) Reason → Type 0
@@ -63,4 +68,5 @@ Answers (schema_of bytes) answer = IsSchemaAnswer bytes answer
 Answers (rows_of columns mode number bytes) answer = NoRepeats (column_names columns) × IsRowsAnswer columns mode number bytes answer
 Answers (violations_of D) found = IsListing (ViolatesAt D) found
 Answers (triples_of bytes) answer = IsTriplesAnswer bytes answer
+Answers (verdict_of triples) verdict = IsVerdict triples verdict
 Answers (graph_of name base D) text = IsGraphText name base D text

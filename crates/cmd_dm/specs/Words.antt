@@ -7,7 +7,7 @@ use Rattle.value_dm.specs.declared.mode.NullMode.TheVariants.{Plain, EmptyNull}
 use Rattle.graphs_dm.specs.declared.graph_name.GraphName.{GraphName}
 use Rattle.graphs_dm.specs.declared.graph_name.GraphName.TheVariants as graph
 use Rattle.cmd_dm.specs.declared.command.Command.{Command}
-use Rattle.cmd_dm.specs.declared.command.Command.TheVariants.{Direct, Map, MapKeys, Check, Show}
+use Rattle.cmd_dm.specs.declared.command.Command.TheVariants.{Direct, Map, MapKeys, Check, Show, Consistent}
 
 -- [empty-null]
 abbrev pub nulls_of : List (List ℕ) → Option NullMode
@@ -36,6 +36,11 @@ abbrev pub show_of : List (List ℕ) → Option Command
 show_of (name ∷ []) = Some (Show (chars name))
 show_of words = None
 
+-- GRAPH
+abbrev pub consistent_of : List (List ℕ) → Option Command
+consistent_of (name ∷ []) = Some (Consistent (chars name))
+consistent_of words = None
+
 -- the command that words stand for: its name, and then exactly its words
 abbrev pub command_of : List (List ℕ) → Option Command
 command_of [] = None
@@ -44,4 +49,5 @@ command_of (name ∷ words) =
     if bytes_eq name (codes "map") then graph_words graph.Map words else
     if bytes_eq name (codes "map-keys") then graph_words graph.MapKeys words else
     if bytes_eq name (codes "check") then check_of words else
-    if bytes_eq name (codes "show") then show_of words else None
+    if bytes_eq name (codes "show") then show_of words else
+    if bytes_eq name (codes "consistent") then consistent_of words else None

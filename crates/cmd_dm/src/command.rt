@@ -52,4 +52,10 @@ pub enum Command {
         /// The name of the file.
         graph: Text,
     },
+
+    /// Writes whether the triples of a file of N-Triples contradict themselves.
+    Consistent {
+        /// The name of the file.
+        graph: Text,
+    },
 }

@@ -4,6 +4,7 @@
 mod causes;
 mod check;
 mod command;
+mod consistent;
 mod fault_line;
 mod folder;
 mod graphs;

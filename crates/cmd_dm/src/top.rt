@@ -10,6 +10,7 @@ ghost use Rattle.cmd_dm.specs.declared.status.File.{File};
 
 use crate::check::run_check;
 use crate::command::Command;
+use crate::consistent::run_consistent;
 use crate::fault_line::tell;
 use crate::graphs::run_graph;
 use crate::show::run_show;
@@ -47,6 +48,7 @@ fn run_command<S: Shelf, K: Sink>(
         } => run_graph(alloc, GraphName::MapKeys, base, folder, *nulls, shelf, out),
         Command::Check { folder, nulls } => run_check(alloc, folder, *nulls, shelf, out),
         Command::Show { graph } => run_show(alloc, graph, shelf, out),
+        Command::Consistent { graph } => run_consistent(alloc, graph, shelf, out),
     }
 }
 

@@ -1,5 +1,5 @@
 ghost use Rattle.std.specs.Prelude.{◌≡◌, ◌↔◌, Some, None, IfOk, IfErr, IsErrOf, chars, map, string_bytes};
-ghost use Rattle.cmd_dm.specs.Words.{check_of, command_of, graph_command, graph_words, nulls_of, show_of};
+ghost use Rattle.cmd_dm.specs.Words.{check_of, command_of, consistent_of, graph_command, graph_words, nulls_of, show_of};
 ghost use Rattle.cmd_dm.specs.declared.words.WordError.TheVariants.{Memory, Usage};
 
 use crate::command::Command;
@@ -124,6 +124,19 @@ fn read_show(alloc: Global, words: &[String]) -> Result<Command, WordError>
     }
 }
 
+/// The words behind `consistent`.
+fn read_consistent(alloc: Global, words: &[String]) -> Result<Command, WordError>
+    ensures ok { IfOk result (λ command. consistent_of (map string_bytes words.now) ≡ Some command) }
+    ensures usage { IsErrOf result WordError.Usage ↔ (consistent_of (map string_bytes words.now) ≡ None) }
+{
+    match words {
+        [graph] => Ok(Command::Consistent {
+            graph: text_of(alloc, graph)?,
+        }),
+        _ => Err(WordError::Usage),
+    }
+}
+
 /// The command that the words stand for, which don't include the program's name. `Usage` exactly where they stand
 /// for none.
 pub fn read_words(alloc: Global, words: &[String]) -> Result<Command, WordError>
@@ -143,6 +156,8 @@ pub fn read_words(alloc: Global, words: &[String]) -> Result<Command, WordError>
                 read_check(alloc, rest)
             } else if name.as_str() == "show" {
                 read_show(alloc, rest)
+            } else if name.as_str() == "consistent" {
+                read_consistent(alloc, rest)
             } else {
                 Err(WordError::Usage)
             }

@@ -768,6 +768,64 @@ $ show g empty-null
 "
 }
 
+fn judged() -> &'static str {
+    "$ consistent g
++ g
+<http://a/x> <owl:differentFrom> <http://a/y> .
+= 0
+consistent
+$ consistent g
++ g
+_:n <owl:differentFrom> _:n .
+= 0
+conflict 1 same-node
+$ consistent g
++ g
+<http://a/p> <rdfs:range> <xsd:integer> .
+<http://a/x> <http://a/p> \"z\" .
+= 0
+conflict 2 range
+$ consistent g
++ g
+= 0
+consistent
+$ consistent g
++ g
+# the number is that of the triple
+
+<http://a/x> <http://a/p> \"z\" .
+<http://a/x> <http://a/p> \"z\" .
+<http://a/x> <owl:differentFrom> <http://a/x> .
+= 0
+conflict 3 same-node
+$ consistent g
++ g
+<http://a/x> <http://a/p> \"z\" .
+<http://a/x>
+= 1
+! dbrdf: refused 28 BadLine place 2
+$ consistent g
+= 3
+! dbrdf: absent graph
+$ consistent
+= 2
+! dbrdf: usage
+$ consistent g empty-null
+= 2
+! dbrdf: usage
+"
+}
+
+// The verdicts on the map-keys graphs above, in their order.
+const MAP_KEYS_VERDICTS: [&str; 6] = [
+    "0\nconflict 11 same-node\n",
+    "0\nconflict 24 same-node\n",
+    "0\nconflict 11 same-node\n",
+    "0\nconflict 7 same-node\n",
+    "0\nconsistent\n",
+    "0\nconsistent\n",
+];
+
 fn checks() -> &'static str {
     "$ check d
 + d/schema.sql
@@ -1193,6 +1251,29 @@ fn tells_that_the_graph_failed(rt: HostRuntime) -> Result<(), Fail> {
     assert!(rt; ended.number == 4);
     assert!(rt; ended.out.bytes().len() == 0);
     assert!(rt; ended.diag.bytes() == b"dbrdf: read fault graph\n".as_slice());
+    Ok(())
+}
+
+// How `consistent` ends on the text that another run wrote.
+fn verdict_on(alloc: Global, told: &str) -> Result<Vec<u8>, Fail> {
+    let told = expanded(alloc, told)?;
+    let (_, written) = told.as_str().split_once("= 0\n").ok_or("no ending")?;
+    let mut files = FileList::new(alloc);
+    add_file(alloc, &mut files, "g", written.as_bytes())?;
+    run_at(alloc, "consistent g", files)
+}
+
+#[test]
+fn judges_graphs(rt: HostRuntime) -> Result<(), Fail> {
+    all_end_as_told(&rt, rt.alloc(), judged())?;
+    let mut verdicts = MAP_KEYS_VERDICTS.iter();
+    for told in map_keys().split("$ ") {
+        if told.len() > 0 {
+            let verdict = verdicts.next().ok_or("no verdict")?;
+            let ended = verdict_on(rt.alloc(), told)?;
+            assert!(rt; ended.as_slice() == verdict.as_bytes(), "{told}");
+        }
+    }
     Ok(())
 }
 

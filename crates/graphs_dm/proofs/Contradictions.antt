@@ -30,6 +30,7 @@ use Rattle.facts_dm.specs.Meanings.{Meaning, NamingLaws, meaning, of_property, o
 use Rattle.facts_dm.specs.Vocabulary.{word_iri}
 use Rattle.facts_dm.specs.declared.word.Word.{Word}
 use Rattle.facts_dm.specs.declared.word.Word.TheVariants.{Datatype, OwlDifferentFrom, RdfType, RdfsDomain, RdfsRange}
+use Rattle.facts_dm.proofs.NamingInstance.{naming_laws}
 use Rattle.table_csv.specs.Databases.{Data, IsDatabase}
 use Rattle.keys_dm.specs.Violations.{KeepsKeys}
 use Rattle.consistency_dm.specs.Conflicts.{IsConflict}
@@ -235,3 +236,7 @@ module _ (base : List ℕ) (ok : is_base base ≡ true) (laws : NamingLaws base)
       (λ kept. interpretation triples (λ x i. let f = are.only x i in ap (λ (z : Statement). is_literal z.subject) f.2 ∙ subject_is_node base f.0) (none_where_kept triples are kept)),
     );
   }
+
+-- the same of any base
+pub interpreted_below : (base : List ℕ) → is_base base ≡ true → (D : Data) → IsDatabase D → IsInterpretedWhereKept base D
+interpreted_below base ok D database = interpreted_where_kept base ok (naming_laws base ok) D database
