@@ -1,8 +1,9 @@
 ghost use Rattle.std.specs.Prelude.{◌≡◌, IfOk, encode_utf8_all};
 
-use outside_dm::{
+use crate::transfers::read_whole;
+use crate::{
     Calls, Cut, Cuts, FileList, FolderShelf, LoadError, MemoryShelf, MemorySink, NamedFile,
-    NoFaultShelf, NoFaultSink, PutError, Shelf, Sink, StoreError, StreamSink, read_whole,
+    NoFaultShelf, NoFaultSink, PutError, Shelf, Sink, StoreError, StreamSink,
 };
 use std::alloc::{AllocError, Global};
 use std::io::{Read, Write};
