@@ -6,7 +6,7 @@ use std::test::Fail;
 
 // Documents of one triple, which `<http://a/s> <http://a/p>` begins, by what stands behind it in the document and in the
 // written form of RDF 1.1 N-Triples, section 4.
-const OBJECTS: [(&str, &str); 22] = [
+const OBJECTS: [(&str, &str); 28] = [
     (" \"x\" .", "\"x\""),
     ("\"x\".", "\"x\""),
     ("\t \"x\"\t .\t# c", "\"x\""),
@@ -38,10 +38,16 @@ const OBJECTS: [(&str, &str); 22] = [
     (" _:a.b.", "_:a.b"),
     (" _:0a-b\u{B7}\u{300}:_ .", "_:0a-b\u{B7}\u{300}:_"),
     (" _:\u{EFFFF} .", "_:\u{EFFFF}"),
+    (" \"\\u00e90\\U000000E90\" .", "\"é0é0\""),
+    (" \"'a'\" .", "\"'a'\""),
+    (" \"x\"@a-1Z-9z\t.", "\"x\"@a-1Z-9z"),
+    (" <!#;=?[]_az~\u{7F}\u{80}> .", "<!#;=?[]_az~\u{7F}\u{80}>"),
+    (" <\\u0021\\U0000007E\\uE000> .", "<!~\u{E000}>"),
+    (" _:a-. # c", "_:a-"),
 ];
 
 // What no object, full stop and end of a line is, behind a subject and a predicate.
-const BAD_OBJECTS: [&str; 36] = [
+const BAD_OBJECTS: [&str; 80] = [
     "",
     " \"x\"",
     " \"x",
@@ -78,10 +84,54 @@ const BAD_OBJECTS: [&str; 36] = [
     " _:a.. .",
     " _:-a .",
     " _:.a .",
+    " \"\\a\" .",
+    " \"\\T\" .",
+    " \"\\0\" .",
+    " \"\\ \" .",
+    " \"\\u00/0\" .",
+    " \"\\u00:0\" .",
+    " \"\\u00@0\" .",
+    " \"\\u00G0\" .",
+    " \"\\u00`0\" .",
+    " \"\\U0000D800\" .",
+    " \"\\UFFFFFFFF\" .",
+    " \"x\"\" .",
+    " 'x' .",
+    " \"x\"@e1 .",
+    " \"x\"@-en .",
+    " \"x\"@en_US .",
+    " \"x\"@[ .",
+    " \"x\"@` .",
+    " \"x\"@{ .",
+    " \"x\"^ ^<http://a/d> .",
+    " \"x\"^^<http://a/d>@en .",
+    " \"x\"@en^^<http://a/d> .",
+    " <a\u{0}b> .",
+    " <a\u{1F}b> .",
+    " <a\"b> .",
+    " <a<b> .",
+    " <a}b> .",
+    " <a|b> .",
+    " <a^b> .",
+    " <a`b> .",
+    " <a\\b> .",
+    " <a\\u0000b> .",
+    " <a\\u0022b> .",
+    " <a\\u003Cb> .",
+    " <a\\u005Cb> .",
+    " <a\\u007Db> .",
+    " <a\\U0000007Cb> .",
+    " <a\\uD800b> .",
+    " <a\\nb> .",
+    "\u{A0}<o> .",
+    "\u{B}<o> .",
+    "\u{C}<o> .",
+    "<o>\u{A0}.",
+    " _ :a .",
 ];
 
 // Whole documents, and their triples in written form, or the first bad line behind `!`.
-const DOCUMENTS: [(&str, &str); 20] = [
+const DOCUMENTS: [(&str, &str); 29] = [
     ("", ""),
     ("\n\r\n\r#\n \t\n", ""),
     ("# <http://a/s> <http://a/p> \"x\" .", ""),
@@ -111,6 +161,18 @@ const DOCUMENTS: [(&str, &str); 20] = [
     ("<s> \"p\" <o> .", "!1"),
     ("<s> <p> <o> <g> .", "!1"),
     ("@prefix a: <http://a/> .", "!1"),
+    ("<><><>.", "<> <> <> .\n"),
+    (" \t<s>\t <p><o>\t.\t \t", "<s> <p> <o> .\n"),
+    (
+        "<s><p>_:a.\n_:a..b.c<p>_:b.",
+        "<s> <p> _:a .\n_:a..b.c <p> _:b .\n",
+    ),
+    ("<s><p><o>.#\0\u{85}\u{2028}#\n#", "<s> <p> <o> .\n"),
+    ("\r\r\n\n\r<s><p>b.", "!5"),
+    ("<s><p><a>.\n<s><p><b>.\n<s><p>c.\n<s><p>d.", "!3"),
+    ("<s> # c\n<p> <o> .", "!1"),
+    ("<s><p><o>.\u{85}", "!1"),
+    ("<s><p><o>.\u{B}<s><p><o>.", "!1"),
 ];
 
 // The triples in written form.
@@ -165,11 +227,97 @@ fn documents(rt: HostRuntime) -> Result<(), Fail> {
     Ok(())
 }
 
-// Lines of bytes that are no UTF-8: a byte that begins nothing, a surrogate, and a text that is cut off.
-const NO_UTF8: [&[u8]; 3] = [
+// Labels at the ends of the ranges of their characters (RDF 1.1 N-Triples, section 7).
+const LABELS: [&str; 12] = [
+    "AZaz_:09",
+    "\u{C0}\u{D6}\u{D8}\u{F6}\u{F8}\u{2FF}",
+    "\u{370}\u{37D}\u{37F}\u{1FFF}",
+    "\u{200C}\u{200D}",
+    "\u{2070}\u{218F}\u{2C00}\u{2FEF}",
+    "\u{3001}\u{D7FF}\u{F900}\u{FDCF}",
+    "\u{FDF0}\u{FFFD}",
+    "\u{10000}\u{EFFFF}",
+    "a\u{B7}\u{300}\u{36F}",
+    "a\u{203F}\u{2040}",
+    "9.-",
+    ":",
+];
+
+// Characters that no label begins with.
+const NO_FIRST: [&str; 9] = [
+    "-", ".", "\u{B7}", "\u{300}", "\u{36F}", "\u{203F}", "\u{2040}", " ", "<",
+];
+
+// Characters that stand in no label.
+const NOT_IN_LABELS: [&str; 26] = [
+    "/",
+    ";",
+    "@",
+    "[",
+    "`",
+    "{",
+    "\u{B6}",
+    "\u{B8}",
+    "\u{BF}",
+    "\u{D7}",
+    "\u{F7}",
+    "\u{37E}",
+    "\u{2000}",
+    "\u{200B}",
+    "\u{200E}",
+    "\u{203E}",
+    "\u{2041}",
+    "\u{206F}",
+    "\u{2190}",
+    "\u{2BFF}",
+    "\u{2FF0}",
+    "\u{3000}",
+    "\u{E000}",
+    "\u{FDD0}",
+    "\u{FFFE}",
+    "\u{F0000}",
+];
+
+#[test]
+fn labels(rt: HostRuntime) -> Result<(), Fail> {
+    let alloc = rt.alloc();
+    for label in LABELS {
+        let document = format!(in alloc; "_:{label}<p>_:{label}.")?;
+        let line = format!(in alloc; "_:{label} <p> _:{label} .\n")?;
+        assert_eq!(rt; read(alloc, document.as_bytes())?.as_str(), line.as_str());
+    }
+    Ok(())
+}
+
+// Whether the first line is the first bad one.
+fn is_bad(alloc: Global, line: &str) -> Result<bool, Fail> {
+    Ok(read(alloc, line.as_bytes())?.as_str() == "!1")
+}
+
+#[test]
+fn no_labels(rt: HostRuntime) -> Result<(), Fail> {
+    let alloc = rt.alloc();
+    for c in NO_FIRST {
+        let line = format!(in alloc; "_:{c}a <p> <o> .")?;
+        assert!(rt; is_bad(alloc, line.as_str())?, "{line}");
+    }
+    for c in NOT_IN_LABELS {
+        let first = format!(in alloc; "_:{c} <p> <o> .")?;
+        assert!(rt; is_bad(alloc, first.as_str())?, "{first}");
+        let behind = format!(in alloc; "_:a{c}b <p> <o> .")?;
+        assert!(rt; is_bad(alloc, behind.as_str())?, "{behind}");
+    }
+    Ok(())
+}
+
+// Lines of bytes that are no UTF-8: a byte that begins nothing, a surrogate, a text that is cut off, a character in more bytes than
+// it takes, and one above the last.
+const NO_UTF8: [&[u8]; 5] = [
     b"<s> <p> <\xFF> .",
     b"<s> <p> <o> . # \xED\xA0\x80",
     b"<s> <p> \"\xC3\" .",
+    b"<s> <p> <\xC0\xAF> .",
+    b"<s> <p> <o> . # \xF4\x90\x80\x80",
 ];
 
 #[test]
