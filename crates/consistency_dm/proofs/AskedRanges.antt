@@ -1,6 +1,6 @@
 -- What triples ask, as a list, in order, and as it is sorted.
-use Rattle.std.proofs.Common.{◌≡◌, ◌∙◌, ℕ, ◌<◌, ◌+◌, List, [], ◌∷◌, ◌++◌, Option, None, Some, Bool, true, false, refl, sym, ap, subst, inl, inr, get_or, length, take, map, append_assoc, arith, is_lt, IsSortedBy, IsPermutation}
-use Rattle.std.specs.Prelude.{option_to_list, All, nat_eq}
+use Rattle.std.proofs.Common.{◌≡◌, ◌∙◌, ℕ, ◌<◌, ◌+◌, List, [], ◌∷◌, ◌++◌, Option, None, Some, Bool, true, false, refl, sym, ap, subst, inl, inr, get_or, length, take, map, append_assoc, is_lt, IsSortedBy, IsPermutation}
+use Rattle.std.specs.Prelude.{option_to_list, nat_eq}
 use Rattle.std.specs.Cmp.{IsTotalOrder, IsStrictWeakOrder}
 use Rattle.std.specs.Cmp.Lexicographic.{pointwise, bytes_decides}
 use Rattle.std.proofs.lemmas.Cmp.{on_total, then_total}
@@ -14,7 +14,7 @@ use Rattle.names_dm.specs.declared.term.Term.{Term}
 use Rattle.names_dm.specs.declared.term.Term.TheVariants as term
 use Rattle.facts_dm.specs.Vocabulary.{word_iri}
 use Rattle.facts_dm.specs.declared.word.Word.TheVariants.{RdfsRange}
-use Rattle.consistency_dm.specs.Conflicts.{IsConflict, IsOutOfRange}
+use Rattle.consistency_dm.specs.Conflicts.{IsOutOfRange}
 use Rattle.consistency_dm.specs.Interpretations.{RangeForm, anything, literals_of, members_of, range_form}
 use Rattle.consistency_dm.specs.Ranges.{AreRangesOf, AreRising, Asks, IsKeptOut, all_stated, asks_cmp, asks_of, form_asks, is_let_in, stated, subject_asks}
 use Rattle.consistency_dm.specs.declared.range.StatedRange.{StatedRange}

@@ -1,12 +1,12 @@
 -- The first conflict, and the verdict.
-use Rattle.std.proofs.Common.{◌≡◌, ◌∙◌, ◌⊎◌, ◌<◌, ◌≤◌, ◌+◌, ℕ, zero, suc, List, length, get_or, Some, None, Bool, true, false, not, refl, sym, ap, subst, inl, inr, ⊎_elim, arith}
+use Rattle.std.proofs.Common.{◌≡◌, ◌∙◌, ◌<◌, ◌≤◌, ◌+◌, ℕ, zero, suc, List, length, get_or, Some, None, Bool, true, false, not, refl, sym, ap, subst, inl, inr, ⊎_elim, arith}
 use Rattle.std.specs.Prelude.{◌↔◌, slice_get}
 use Rattle.std.proofs.lemmas.Bool.{cases_lt}
-use Rattle.std.proofs.lemmas.Option.{slice_get-get_or, slice_get_within}
+use Rattle.std.proofs.lemmas.Option.{slice_get-get_or}
 use Rattle.members_dm.specs.Membership.{IsIn}
 use Rattle.members_dm.proofs.ElementsLemmas.{index_of_item, item_at_index}
 use Rattle.names_dm.specs.Statements.{Statement, is_literal}
-use Rattle.consistency_dm.specs.Conflicts.{HasKind, IsConflict, IsFirstConflict, IsSameNode, IsVerdict}
+use Rattle.consistency_dm.specs.Conflicts.{HasKind, IsConflict, IsFirstConflict, IsVerdict}
 use Rattle.consistency_dm.specs.Interpretations.{HasInterpretation}
 use Rattle.consistency_dm.specs.Ranges.{IsToldAs}
 use Rattle.consistency_dm.specs.declared.verdict.ConflictKind.{ConflictKind}

@@ -1,5 +1,5 @@
 -- The ranges of a property, found by halving.
-use Rattle.std.proofs.Common.{◌≡◌, ◌∙◌, ℕ, ◌≤◌, ◌<◌, ◌+◌, ◌-◌, ◌⊎◌, List, length, get_or, Option, None, Some, Bool, true, false, not, ◌&&◌, refl, sym, ap, subst, inl, inr, ⊎_elim, map, arith, Ordering, Less, Equal, Greater, is_lt, is_le}
+use Rattle.std.proofs.Common.{◌≡◌, ◌∙◌, ℕ, ◌≤◌, ◌<◌, ◌-◌, List, length, get_or, Option, None, Some, Bool, true, false, not, ◌&&◌, refl, sym, ap, subst, inl, inr, ⊎_elim, arith, Ordering, Less, Equal, Greater, is_lt, is_le}
 use Rattle.std.specs.Prelude.{◌↔◌}
 use Rattle.std.specs.Cmp.{IsTotalOrder}
 use Rattle.std.specs.Cmp.Lexicographic.{bytes_decides}

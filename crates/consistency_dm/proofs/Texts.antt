@@ -1,5 +1,5 @@
 -- Texts in ASCII, and the order of texts.
-use Rattle.std.proofs.Common.{◌≡◌, ◌∙◌, ℕ, List, [], ◌∷◌, Option, None, Some, true, ltb, chars, ap, sym, Ordering, Equal, is_eq}
+use Rattle.std.proofs.Common.{◌≡◌, ◌∙◌, ℕ, List, [], ◌∷◌, Option, None, Some, true, ltb, chars, ap, Equal, is_eq}
 use Rattle.std.specs.Cmp.{IsTotalOrder}
 use Rattle.std.specs.Cmp.Lexicographic.{bytes_decides, options_total}
 use Rattle.std.specs.List.{list_all}

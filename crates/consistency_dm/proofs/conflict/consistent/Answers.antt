@@ -1,4 +1,4 @@
-use Rattle.std.proofs.Common.{List, Some, None, arith, subst, sym}
+use Rattle.std.proofs.Common.{List, subst, sym}
 use Rattle.consistency_dm.specs.Ranges.{AreRangesOf}
 use Rattle.consistency_dm.specs.declared.range.StatedRange.{StatedRange}
 use Rattle.consistency_dm.proofs.FirstConflicts.{conflict_told, conflict_yes, fine_more, not_literal, yes_told, yes_yes}
