@@ -1,2 +1,9 @@
 pub mod Bridge
+pub mod ConditionLemmas
+pub mod Layers
+pub mod LeftJoins
+pub mod MaskLemmas
 pub mod Outcomes
+pub mod SideLemmas
+pub mod SlotLemmas
+pub mod Solving
