@@ -1,5 +1,6 @@
 pub mod Bridge
 pub mod ConditionLemmas
+pub mod FormedLemmas
 pub mod Layers
 pub mod LeftJoins
 pub mod MaskLemmas
@@ -7,3 +8,5 @@ pub mod Outcomes
 pub mod SideLemmas
 pub mod SlotLemmas
 pub mod Solving
+pub mod TextLayers
+pub mod TextLemmas
