@@ -22,7 +22,6 @@ pub text_or : (f g : Condition) → condition_text (conditions.Or f g) ≡ codes
 unfolding shape-the_row-Condition-0 hidden-the_row-Condition-0 hidden
 text_or f g = refl
 
-pub ruleset condition_layers = (text_not, text_both, text_or)
 
 pub text_and : (p q : Pattern) → pattern_text (patterns.And p q) ≡ codes "{ " ++ pattern_text p ++ codes " " ++ pattern_text q ++ codes " }"
 unfolding shape-the_row-Pattern-0 hidden-the_row-Pattern-0 hidden
@@ -48,4 +47,3 @@ pub text_select : (p : Pattern) (rs : List Rename) → pattern_text (patterns.Se
 unfolding shape-the_row-Pattern-0 hidden-the_row-Pattern-0 hidden
 text_select p rs = refl
 
-pub ruleset pattern_layers = (text_and, text_left, text_union, text_minus, text_filter, text_select)

@@ -19,3 +19,7 @@ spaced_more f xs k d l = ap (λ ys. spaced (map f ys)) (take_more xs k d l) ∙ 
     length_front [] k l = absurd (omega arith)
     length_front (x ∷ xs) zero l = refl
     length_front (x ∷ xs) (suc k) l = ap suc (length_front xs k (omega arith))
+
+-- a text with one more piece
+pub step : (start so_far now text piece same : List ℕ) → so_far ≡ start ++ text → now ≡ so_far ++ piece → piece ≡ same → now ≡ start ++ (text ++ same)
+step start so_far now text piece same h e k = e ∙ ap (λ t. t ++ piece) h ∙ append_assoc start text piece ∙ ap (λ t. start ++ (text ++ t)) k

@@ -12,6 +12,12 @@ use solutions_dm::Rename;
 use std::alloc::{AllocError, Global};
 use value_dm::same;
 
+fn put(out: &mut String, piece: &str) -> Result<(), AllocError>
+    ensures { OnOk result (string_bytes out.new ≡ string_bytes out.old ++ piece.now) }
+{
+    out.push_str(piece)
+}
+
 fn push_variable(out: &mut String, name: &Var) -> Result<(), AllocError>
     ensures { OnOk result (string_bytes out.new ≡ string_bytes out.old ++ variable_text name.now) }
 {
@@ -66,32 +72,34 @@ fn push_same(
     out.push_str(")")
 }
 
-#[tactic(auto, using(crate::proofs::TextLayers::condition_layers))]
 fn push_condition(alloc: Global, out: &mut String, condition: &Condition) -> Result<(), AllocError>
     ensures { OnOk result (string_bytes out.new ≡ string_bytes out.old ++ condition_text condition.now) }
 {
     match condition {
-        Condition::True => out.push_str("true"),
+        Condition::True => put(out, "true"),
         Condition::Bound(name) => push_bound(out, name),
         Condition::SameTerm(first, second) => push_same(alloc, out, first, second),
         Condition::Not(part) => {
-            out.push_str("( ! ")?;
+            put(out, "( ! ")?;
             push_condition(alloc, out, part.get())?;
-            out.push_str(" )")
+            put(out, " )")?;
+            Ok(())
         }
         Condition::And(left, right) => {
-            out.push_str("( ")?;
+            put(out, "( ")?;
             push_condition(alloc, out, left.get())?;
-            out.push_str(" && ")?;
+            put(out, " && ")?;
             push_condition(alloc, out, right.get())?;
-            out.push_str(" )")
+            put(out, " )")?;
+            Ok(())
         }
         Condition::Or(left, right) => {
-            out.push_str("( ")?;
+            put(out, "( ")?;
             push_condition(alloc, out, left.get())?;
-            out.push_str(" || ")?;
+            put(out, " || ")?;
             push_condition(alloc, out, right.get())?;
-            out.push_str(" )")
+            put(out, " )")?;
+            Ok(())
         }
     }
 }
@@ -187,54 +195,59 @@ fn push_triple(
     out.push_str(" . }")
 }
 
-#[tactic(auto, using(crate::proofs::TextLayers::pattern_layers))]
 fn push_pattern(alloc: Global, out: &mut String, pattern: &Pattern) -> Result<(), AllocError>
     ensures { OnOk result (string_bytes out.new ≡ string_bytes out.old ++ pattern_text pattern.now) }
 {
     match pattern {
-        Pattern::Empty => out.push_str("{ }"),
+        Pattern::Empty => put(out, "{ }"),
         Pattern::Triple(s, p, o) => push_triple(alloc, out, s, p, o),
         Pattern::And(left, right) => {
-            out.push_str("{ ")?;
+            put(out, "{ ")?;
             push_pattern(alloc, out, left.get())?;
-            out.push_str(" ")?;
+            put(out, " ")?;
             push_pattern(alloc, out, right.get())?;
-            out.push_str(" }")
+            put(out, " }")?;
+            Ok(())
         }
         Pattern::LeftJoin(left, right, condition) => {
-            out.push_str("{ ")?;
+            put(out, "{ ")?;
             push_pattern(alloc, out, left.get())?;
-            out.push_str(" OPTIONAL { ")?;
+            put(out, " OPTIONAL { ")?;
             push_pattern(alloc, out, right.get())?;
             push_filter_unless_true(alloc, out, condition)?;
-            out.push_str(" } }")
+            put(out, " } }")?;
+            Ok(())
         }
         Pattern::Union(left, right) => {
-            out.push_str("{ ")?;
+            put(out, "{ ")?;
             push_pattern(alloc, out, left.get())?;
-            out.push_str(" UNION ")?;
+            put(out, " UNION ")?;
             push_pattern(alloc, out, right.get())?;
-            out.push_str(" }")
+            put(out, " }")?;
+            Ok(())
         }
         Pattern::Minus(left, right) => {
-            out.push_str("{ ")?;
+            put(out, "{ ")?;
             push_pattern(alloc, out, left.get())?;
-            out.push_str(" MINUS ")?;
+            put(out, " MINUS ")?;
             push_pattern(alloc, out, right.get())?;
-            out.push_str(" }")
+            put(out, " }")?;
+            Ok(())
         }
         Pattern::Filter(part, condition) => {
-            out.push_str("{ ")?;
+            put(out, "{ ")?;
             push_pattern(alloc, out, part.get())?;
             push_filter(alloc, out, condition)?;
-            out.push_str(" }")
+            put(out, " }")?;
+            Ok(())
         }
         Pattern::Select(part, renames) => {
-            out.push_str("{ SELECT ")?;
+            put(out, "{ SELECT ")?;
             push_renames(out, renames.as_slice())?;
-            out.push_str(" WHERE ")?;
+            put(out, " WHERE ")?;
             push_pattern(alloc, out, part.get())?;
-            out.push_str(" }")
+            put(out, " }")?;
+            Ok(())
         }
     }
 }
