@@ -1,2 +1,12 @@
 pub mod Bridge
+pub mod ConditionLemmas
+pub mod FormedLemmas
+pub mod Layers
+pub mod LeftJoins
+pub mod MaskLemmas
 pub mod Outcomes
+pub mod SideLemmas
+pub mod SlotLemmas
+pub mod Solving
+pub mod TextLayers
+pub mod TextLemmas

@@ -15,9 +15,9 @@ pub record Marks (n : ℕ) (P : ℕ → Type 0) (mask : List ℕ) : Type 0 where
   pub each : (i : ℕ) → i < n → (slice_index mask i ≢ 0) ↔ P i
 
 -- the rows at which something holds, and those at which something fails; a row may be neither
-pub record AreSplit (n : ℕ) (yes no : ℕ → Type 0) (masks : Masks) : Type 0 where
-  pub holds : Marks n yes masks.holds.items
-  pub fails : Marks n no masks.fails.items
+pub record AreSplit (n : ℕ) (P Q : ℕ → Type 0) (masks : Masks) : Type 0 where
+  pub holds : Marks n P masks.holds.items
+  pub fails : Marks n Q masks.fails.items
 
 -- the rows for which the condition is true, and those for which it is false
 abbrev pub AreMasks : List Term → Condition → Table → Masks → Type 0

@@ -1,10 +1,12 @@
 -- Patterns as text (SPARQL 1.1 Query Language, section 19), in bytes.
 use Prim.Native.Char.{code}
-use Rattle.std.specs.Prelude.{ℕ, List, ◌++◌, codes, encode_utf8_all, bytes_eq, map, if◌then◌else◌}
+use Rattle.std.specs.Prelude.{ℕ, zero, suc, List, ◌++◌, codes, encode_utf8_all, bytes_eq, map, if◌then◌else◌}
 use Rattle.std.specs.List.{join_with_byte}
 use Rattle.names_dm.specs.declared.term.Term.TheVariants as terms
 use Rattle.ntriples_dm.specs.Written.{term_text}
 use Rattle.solutions_dm.specs.declared.selects.Rename.{Rename}
+use Rattle.pattern_dm.specs.declared.operands.Side.{Side}
+use Rattle.pattern_dm.specs.declared.operands.Side.TheVariants as sides
 use Rattle.pattern_dm.specs.declared.pattern.Operand.{Operand}
 use Rattle.pattern_dm.specs.declared.pattern.Operand.TheVariants as operands
 use Rattle.pattern_dm.specs.declared.pattern.Condition.{Condition, end_of-Condition, more_of-Condition}
@@ -20,6 +22,11 @@ abbrev pub operand_text : Operand → List ℕ
 operand_text (operands.Var x) = variable_text x
 operand_text (operands.Iri i) = term_text (terms.Iri i)
 operand_text (operands.Literal l) = term_text (terms.Literal l)
+
+-- the same of an operand as a variable or a term
+abbrev pub side_text : Side → List ℕ
+side_text (sides.Var x) = variable_text x
+side_text (sides.Term t) = term_text t
 
 abbrev pub condition_text : Condition → List ℕ
 condition_text conditions.True = codes "true"
@@ -43,6 +50,11 @@ rename_text r = if bytes_eq r.from r.to then variable_text r.to else codes "(" +
 -- texts with a space between each two
 abbrev pub spaced : List (List ℕ) → List ℕ
 spaced texts = join_with_byte (code " ") texts
+
+-- the space before a text that isn't the first
+abbrev pub gap : ℕ → List ℕ
+gap zero = codes ""
+gap (suc place) = codes " "
 
 abbrev pub pattern_text : Pattern → List ℕ
 pattern_text patterns.Empty = codes "{ }"

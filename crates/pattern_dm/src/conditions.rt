@@ -138,16 +138,19 @@ pub fn masks_of(
         Condition::True => constant(alloc, rows.len(), true),
         Condition::Bound(name) => bound(alloc, name, rows, graph),
         Condition::SameTerm(first, second) => same_term(alloc, first, second, rows, graph),
-        Condition::Not(part) => Ok(masks_of(alloc, part.get(), rows, graph)?.not()),
+        Condition::Not(part) => {
+            let part = masks_of(alloc, part.get(), rows, graph)?;
+            Ok(part.not())
+        }
         Condition::And(left, right) => {
             let left = masks_of(alloc, left.get(), rows, graph)?;
             let right = masks_of(alloc, right.get(), rows, graph)?;
-            Ok(left.and(&right))
+            left.and(alloc, &right)
         }
         Condition::Or(left, right) => {
             let left = masks_of(alloc, left.get(), rows, graph)?;
             let right = masks_of(alloc, right.get(), rows, graph)?;
-            Ok(left.or(&right))
+            left.or(alloc, &right)
         }
     }
 }

@@ -9,8 +9,10 @@ mod operands;
 mod operators;
 mod pattern;
 mod solver;
+mod texts;
 
 pub use answers::answer_grid;
 pub use formed::is_well_formed;
 pub use pattern::{Condition, Operand, Pattern};
 pub use solver::solve;
+pub use texts::sparql_text;

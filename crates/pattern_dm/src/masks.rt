@@ -1,8 +1,8 @@
 // Masks over the numbers of a column, by lanes.
-ghost use Rattle.std.specs.Prelude.{◌≡◌, ◌≢◌, ◌==◌, IfOk, IsTrue, not, length, map, replicate, slice_index};
+ghost use Rattle.std.specs.Prelude.{◌≡◌, ◌≢◌, ◌==◌, ◌&&◌, IfOk, IsTrue, not, length, map, replicate, slice_index};
 ghost use Rattle.std.specs.Simd.Lanes.{zip2};
 ghost use Rattle.lanes_dm.specs.Flags.{flag};
-ghost use Rattle.pattern_dm.specs.Masks.{AreSplit, both_flags, either_flags};
+ghost use Rattle.pattern_dm.specs.Masks.{AreSplit, Marks, both_flags, either_flags};
 
 use lanes_dm::{and_into, mask_eq, mask_ne, mask_nonzero, mask_same};
 use std::alloc::{AllocError, Global};
@@ -13,6 +13,13 @@ use std::alloc::{AllocError, Global};
 pub struct Masks {
     pub holds: Vec<u8>,
     pub fails: Vec<u8>,
+}
+
+// One flag for all rows.
+fn filled(alloc: Global, rows: usize, value: bool) -> Result<Vec<u8>, AllocError>
+    ensures { IfOk result (λ mask. mask.items ≡ replicate rows (flag value)) }
+{
+    vec![in alloc; u8::from(value); rows]
 }
 
 fn equal(alloc: Global, numbers: &[u32], id: u32) -> Result<Vec<u8>, AllocError>
@@ -39,7 +46,7 @@ fn nonzero(alloc: Global, numbers: &[u32]) -> Result<Vec<u8>, AllocError>
     Ok(mask)
 }
 
-fn alike(alloc: Global, a: &[u32], b: &[u32]) -> Result<Vec<u8>, AllocError>
+fn same_flags(alloc: Global, a: &[u32], b: &[u32]) -> Result<Vec<u8>, AllocError>
     requires { length b.now ≡ length a.now }
     ensures { IfOk result (λ mask. mask.items ≡ zip2 (λ x y. flag (x == y)) a.now b.now) }
 {
@@ -48,14 +55,32 @@ fn alike(alloc: Global, a: &[u32], b: &[u32]) -> Result<Vec<u8>, AllocError>
     Ok(mask)
 }
 
-// Marks where one of two masks does.
-fn or_into(a: &mut [u8], b: &[u8])
-    requires { length b.now ≡ length a.old }
-    ensures { a.new ≡ either_flags a.old b.now }
+// Marks where they have one number.
+fn alike(alloc: Global, a: &[u32], b: &[u32]) -> Result<Vec<u8>, AllocError>
+    requires { length b.now ≡ length a.now }
+    ensures { IfOk result (λ mask. Marks (length a.now) (λ i. slice_index a.now i ≡ slice_index b.now i) mask.items) }
 {
-    for i in 0..b.len() {
-        a[i] = u8::from(!(a[i] == 0 && b[i] == 0));
+    let mask = same_flags(alloc, a, b)?;
+    Ok(mask)
+}
+
+fn either_flag(x: u8, y: u8) -> u8
+    ensures { result ≡ flag (not (x == 0 && y == 0)) }
+{
+    u8::from(!(x == 0 && y == 0))
+}
+
+// Marks where one of two masks does.
+#[tactic(auto, using(lanes_dm::proofs::Masks::zip2_more))]
+fn either(alloc: Global, a: &[u8], b: &[u8]) -> Result<Vec<u8>, AllocError>
+    requires { length b.now ≡ length a.now }
+    ensures { IfOk result (λ mask. mask.items ≡ either_flags a.now b.now) }
+{
+    let mut mask = Vec::new(alloc);
+    for i in 0..a.len() {
+        mask.push(either_flag(a[i], b[i]))?;
     }
+    Ok(mask)
 }
 
 // Marks where a mask does not.
@@ -78,15 +103,6 @@ fn both(a: Vec<u8>, b: &[u8]) -> Vec<u8>
     a
 }
 
-fn either(a: Vec<u8>, b: &[u8]) -> Vec<u8>
-    requires { length b.now ≡ length a.items }
-    ensures { result.items ≡ either_flags a.items b.now }
-{
-    let mut a = a;
-    or_into(&mut a, b);
-    a
-}
-
 impl Masks {
     /// Those of the negation.
     pub fn not(self) -> Masks
@@ -101,62 +117,76 @@ impl Masks {
     }
 
     /// Those of the conjunction.
-    pub fn and(self, other: &Masks) -> Masks
+    pub fn and(self, alloc: Global, other: &Masks) -> Result<Masks, AllocError>
         requires holding { length other.now.holds.items ≡ length self.holds.items }
         requires failing { length other.now.fails.items ≡ length self.fails.items }
-        ensures holds { result.holds.items ≡ both_flags self.holds.items other.now.holds.items }
-        ensures fails { result.fails.items ≡ either_flags self.fails.items other.now.fails.items }
+        ensures { IfOk result (λ masks. (masks.holds.items ≡ both_flags self.holds.items other.now.holds.items) × (masks.fails.items ≡ either_flags self.fails.items other.now.fails.items)) }
     {
         let Masks { holds, fails } = self;
-        Masks {
-            holds: both(holds, other.holds.as_slice()),
-            fails: either(fails, other.fails.as_slice()),
-        }
+        let fails = either(alloc, fails.as_slice(), other.fails.as_slice())?;
+        let holds = both(holds, other.holds.as_slice());
+        Ok(Masks { holds, fails })
     }
 
     /// Those of the disjunction.
-    pub fn or(self, other: &Masks) -> Masks
+    pub fn or(self, alloc: Global, other: &Masks) -> Result<Masks, AllocError>
         requires holding { length other.now.holds.items ≡ length self.holds.items }
         requires failing { length other.now.fails.items ≡ length self.fails.items }
-        ensures holds { result.holds.items ≡ either_flags self.holds.items other.now.holds.items }
-        ensures fails { result.fails.items ≡ both_flags self.fails.items other.now.fails.items }
+        ensures { IfOk result (λ masks. (masks.holds.items ≡ either_flags self.holds.items other.now.holds.items) × (masks.fails.items ≡ both_flags self.fails.items other.now.fails.items)) }
     {
         let Masks { holds, fails } = self;
-        Masks {
-            holds: either(holds, other.holds.as_slice()),
-            fails: both(fails, other.fails.as_slice()),
-        }
+        let holds = either(alloc, holds.as_slice(), other.holds.as_slice())?;
+        let fails = both(fails, other.fails.as_slice());
+        Ok(Masks { holds, fails })
     }
+}
+
+// Marks where both are bound.
+fn both_bound(alloc: Global, a: &[u32], b: &[u32]) -> Result<Vec<u8>, AllocError>
+    requires { length b.now ≡ length a.now }
+    ensures { IfOk result (λ mask. Marks (length a.now) (λ i. (slice_index a.now i ≢ 0) × (slice_index b.now i ≢ 0)) mask.items) }
+{
+    let first = nonzero(alloc, a)?;
+    let second = nonzero(alloc, b)?;
+    let mask = both(first, second.as_slice());
+    Ok(mask)
+}
+
+// Marks where they have different numbers.
+fn differing(alloc: Global, a: &[u32], b: &[u32]) -> Result<Vec<u8>, AllocError>
+    requires { length b.now ≡ length a.now }
+    ensures { IfOk result (λ mask. Marks (length a.now) (λ i. slice_index a.now i ≢ slice_index b.now i) mask.items) }
+{
+    let same = alike(alloc, a, b)?;
+    let mask = negated(alloc, same.as_slice())?;
+    Ok(mask)
 }
 
 /// All rows are true, or all are false.
 pub fn constant(alloc: Global, rows: usize, value: bool) -> Result<Masks, AllocError>
     ensures { IfOk result (λ masks. AreSplit rows (λ _. IsTrue value) (λ _. IsTrue (not value)) masks) }
 {
-    Ok(Masks {
-        holds: vec![in alloc; u8::from(value); rows]?,
-        fails: vec![in alloc; u8::from(!value); rows]?,
-    })
+    let holds = filled(alloc, rows, value)?;
+    let fails = filled(alloc, rows, !value)?;
+    Ok(Masks { holds, fails })
 }
 
 /// All rows have an error.
 pub fn errors(alloc: Global, rows: usize) -> Result<Masks, AllocError>
     ensures { IfOk result (λ masks. AreSplit rows (λ _. ⊥) (λ _. ⊥) masks) }
 {
-    Ok(Masks {
-        holds: vec![in alloc; 0u8; rows]?,
-        fails: vec![in alloc; 0u8; rows]?,
-    })
+    let holds = filled(alloc, rows, false)?;
+    let fails = filled(alloc, rows, false)?;
+    Ok(Masks { holds, fails })
 }
 
 /// Whether a variable is bound.
 pub fn is_bound(alloc: Global, numbers: &[u32]) -> Result<Masks, AllocError>
     ensures { IfOk result (λ masks. AreSplit (length numbers.now) (λ i. slice_index numbers.now i ≢ 0) (λ i. slice_index numbers.now i ≡ 0) masks) }
 {
-    Ok(Masks {
-        holds: nonzero(alloc, numbers)?,
-        fails: equal(alloc, numbers, 0)?,
-    })
+    let holds = nonzero(alloc, numbers)?;
+    let fails = equal(alloc, numbers, 0)?;
+    Ok(Masks { holds, fails })
 }
 
 /// Whether a variable that is bound has this number.
@@ -165,20 +195,18 @@ pub fn is_number(alloc: Global, numbers: &[u32], id: u32) -> Result<Masks, Alloc
 {
     let bound = nonzero(alloc, numbers)?;
     let others = unequal(alloc, numbers, id)?;
-    Ok(Masks {
-        holds: equal(alloc, numbers, id)?,
-        fails: both(others, bound.as_slice()),
-    })
+    let holds = equal(alloc, numbers, id)?;
+    let fails = both(others, bound.as_slice());
+    Ok(Masks { holds, fails })
 }
 
 /// Whether a variable that is bound has a term that is in no row.
 pub fn is_missing(alloc: Global, numbers: &[u32]) -> Result<Masks, AllocError>
     ensures { IfOk result (λ masks. AreSplit (length numbers.now) (λ _. ⊥) (λ i. slice_index numbers.now i ≢ 0) masks) }
 {
-    Ok(Masks {
-        holds: vec![in alloc; 0u8; numbers.len()]?,
-        fails: nonzero(alloc, numbers)?,
-    })
+    let holds = filled(alloc, numbers.len(), false)?;
+    let fails = nonzero(alloc, numbers)?;
+    Ok(Masks { holds, fails })
 }
 
 /// Whether two variables that are bound have one number.
@@ -186,12 +214,10 @@ pub fn is_same(alloc: Global, a: &[u32], b: &[u32]) -> Result<Masks, AllocError>
     requires { length b.now ≡ length a.now }
     ensures { IfOk result (λ masks. AreSplit (length a.now) (λ i. (slice_index a.now i ≡ slice_index b.now i) × ((slice_index a.now i ≢ 0) × (slice_index b.now i ≢ 0))) (λ i. (slice_index a.now i ≢ slice_index b.now i) × ((slice_index a.now i ≢ 0) × (slice_index b.now i ≢ 0))) masks) }
 {
-    let second = nonzero(alloc, b)?;
-    let bound = both(nonzero(alloc, a)?, second.as_slice());
+    let bound = both_bound(alloc, a, b)?;
     let same = alike(alloc, a, b)?;
-    let others = negated(alloc, same.as_slice())?;
-    Ok(Masks {
-        holds: both(same, bound.as_slice()),
-        fails: both(others, bound.as_slice()),
-    })
+    let others = differing(alloc, a, b)?;
+    let holds = both(same, bound.as_slice());
+    let fails = both(others, bound.as_slice());
+    Ok(Masks { holds, fails })
 }

@@ -1,5 +1,5 @@
 // The operators on solutions, each mapping once.
-ghost use Rattle.std.specs.Prelude.{◌≡◌, ◌≢◌, ◌↔◌, ◌⊎◌, ◌<◌, ◌++◌, ◌∷◌, [], ℕ, List, Contains, IfOk, OnOk, Some, true, false, length, slice_get, slice_index, if◌then◌else◌};
+ghost use Rattle.std.specs.Prelude.{◌≡◌, ◌≢◌, ◌↔◌, ◌⊎◌, ◌<◌, ◌++◌, ◌∷◌, [], ℕ, List, Contains, IfOk, OnOk, Some, None, true, false, length, slice_get, slice_index, if◌then◌else◌};
 ghost use Rattle.names_dm.specs.declared.term.Term.{Term as TheTerm};
 ghost use Rattle.solutions_dm.specs.declared.row_pair.RowPair.{RowPair as ThePair};
 ghost use Rattle.solutions_dm.specs.Selects.{AreTargetsApart};
@@ -13,11 +13,19 @@ ghost use Rattle.pattern_dm.specs.Solved.{AreNumbers, HasSolution, IsOutcome};
 use crate::conditions::masks_of;
 use crate::pattern::Condition;
 use solutions_dm::{
-    PairList, Renames, RowPair, Solutions, distinct, keep, merge, minus, pairs, select, union,
+    PairList, Renames, RowPair, Solutions, distinct, keep, merge, minus, pairs, select, union, unit,
     unmatched,
 };
 use std::alloc::{AllocError, Global};
 use store_dm::Graph;
+
+// One row that binds nothing.
+pub fn empty(alloc: Global) -> Result<Solutions, AllocError>
+    ensures { IfOk result (λ s. (terms : List TheTerm) → IsOutcome terms (λ m. (x : List ℕ) → m x ≡ None) s) }
+{
+    let rows = unit(alloc)?;
+    distinct(alloc, &rows)
+}
 
 // The unions of compatible rows.
 pub fn joined(alloc: Global, left: &Solutions, right: &Solutions) -> Result<Solutions, AllocError>

@@ -4,9 +4,9 @@ ghost use Rattle.pattern_dm.specs.Formed.{IsWellFormed};
 ghost use Rattle.pattern_dm.specs.Solved.{IsSolved};
 
 use crate::operands::slot_of;
-use crate::operators::{either, filtered, joined, left_joined, selected, without};
+use crate::operators::{either, empty, filtered, joined, left_joined, selected, without};
 use crate::pattern::{Operand, Pattern};
-use solutions_dm::{Solutions, unit};
+use solutions_dm::Solutions;
 use std::alloc::{AllocError, Global};
 use store_dm::{Graph, triple_rows};
 
@@ -24,7 +24,8 @@ fn triple_solutions(
     let s = slot_of(alloc, subject, graph)?;
     let p = slot_of(alloc, predicate, graph)?;
     let o = slot_of(alloc, object, graph)?;
-    triple_rows(alloc, graph, &s, &p, &o)
+    let rows = triple_rows(alloc, graph, &s, &p, &o)?;
+    Ok(rows)
 }
 
 // The solutions over a graph whose terms have one number each.
@@ -34,7 +35,7 @@ fn solutions_of(alloc: Global, pattern: &Pattern, graph: &Graph) -> Result<Solut
     ensures { IfOk result (λ s. IsSolved graph.now pattern.now s) }
 {
     match pattern {
-        Pattern::Empty => unit(alloc),
+        Pattern::Empty => empty(alloc),
         Pattern::Triple(s, p, o) => triple_solutions(alloc, s, p, o, graph),
         Pattern::And(left, right) => {
             let left = solutions_of(alloc, left.get(), graph)?;

@@ -1,16 +1,15 @@
 -- The rows of triples that agree with three slots.
-use Rattle.std.proofs.Common.{◌≡◌, ◌≢◌, ℕ, ◌≤◌, ◌<◌, zero, suc, List, [], ◌∷◌, ◌++◌, length, get_or, slice_index, Bool, true, false, not, cond, ◌||◌, ◌&&◌, ◌==◌, refl, sym, ap, ◌∙◌, subst, arith, ⊎_elim, ◌⊎◌, inl, inr, AllPairs, Contains, ◌↔◌, map, filter, append-nil}
+use Rattle.std.proofs.Common.{◌≡◌, ◌≢◌, ℕ, ◌<◌, List, [], ◌∷◌, ◌++◌, length, get_or, slice_index, Bool, true, false, not, cond, ◌||◌, ◌&&◌, refl, sym, ap, ◌∙◌, subst, arith, ⊎_elim, ◌⊎◌, inl, inr, AllPairs, Contains, ◌↔◌, map, filter, append-nil}
 use Rattle.std.specs.Str.{bytes_eq}
 use Rattle.std.proofs.lemmas.Slice.Eq.{bytes_eq-Decides}
-use Rattle.std.proofs.lemmas.Bool.{cases_Bool, both_ways, or_cases, or_parts, and_parts, and_from, cond-true, cond-false, eqb-true, eq-eqb, false_from_ne_true}
+use Rattle.std.proofs.lemmas.Bool.{both_ways, or_parts, and_parts, and_from, cond-true, cond-false, eqb-true, eq-eqb, false_from_ne_true}
 use Rattle.std.proofs.lemmas.List.{get_or-map, get_or_default, length-map}
 use Rattle.std.proofs.lemmas.List.Elements.{All-contains, All-contains_itself, All-filter, filter_passes}
 use Rattle.std.proofs.lemmas.List.Kept.{AllPairs-filter}
 use Rattle.solutions_dm.specs.declared.columns.Column.{Column}
 use Rattle.solutions_dm.specs.Columns.{number_at, has_column, AreApart, HaveRows}
-use Rattle.solutions_dm.specs.Table.{Table, IsTable, HasRow}
+use Rattle.solutions_dm.specs.Table.{IsTable, HasRow}
 use Rattle.solutions_dm.proofs.ListLemmas.{Contains-filter}
-use Rattle.store_dm.specs.declared.listing.Triad.{Triad}
 use Rattle.store_dm.specs.declared.matches.Beginning.TheVariants.{Subject, Predicate, Object}
 use Rattle.store_dm.specs.declared.slots.Slot.{Slot}
 use Rattle.store_dm.specs.declared.slots.Slot.TheVariants.{Var, Fixed, Missing}
@@ -20,17 +19,17 @@ use Rattle.store_dm.specs.Slots.{Has, IsVariable, BindsNoOther, IsTripleRow, Are
 
 -- ---- slots
 
-variable_is : (s : Slot) (x : List ℕ) → is_variable s x ≡ true → IsVariable s x
+pub variable_is : (s : Slot) (x : List ℕ) → is_variable s x ≡ true → IsVariable s x
 variable_is (Var y) x e = (bytes_eq-Decides y x).0 e
 variable_is (Fixed k) x e = cc e
 variable_is Missing x e = cc e
 
-is_the_variable : (s : Slot) (x : List ℕ) → IsVariable s x → is_variable s x ≡ true
+pub is_the_variable : (s : Slot) (x : List ℕ) → IsVariable s x → is_variable s x ≡ true
 is_the_variable (Var y) x e = (bytes_eq-Decides y x).1 e
 is_the_variable (Fixed k) x e = absurd e
 is_the_variable Missing x e = absurd e
 
-no_variable : (s : Slot) (x : List ℕ) → is_variable s x ≡ false → IsVariable s x → ⊥
+pub no_variable : (s : Slot) (x : List ℕ) → is_variable s x ≡ false → IsVariable s x → ⊥
 no_variable s x e v = both_ways _ e (is_the_variable s x v)
 
 -- a slot has one number

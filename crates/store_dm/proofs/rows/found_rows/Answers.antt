@@ -1,7 +1,7 @@
-use Rattle.std.proofs.Common.{◌≡◌, ◌≢◌, ◌↔◌, ◌∙◌, ℕ, Bool, List, AllPairs, Contains, filter, length, map, ap, subst, sym}
+use Rattle.std.proofs.Common.{◌≡◌, ◌↔◌, ◌∙◌, ℕ, List, Contains, filter, length, map, subst, sym}
 use Rattle.std.proofs.lemmas.Result.{IfOk-weaker}
 use Rattle.solutions_dm.specs.Table.{Table, HasRow}
-use Rattle.store_dm.specs.Slots.{AreOnce, IsTripleRow, agrees, is_same_variable, sought, slot_columns}
+use Rattle.store_dm.specs.Slots.{AreOnce, IsTripleRow, agrees, slot_columns}
 use Rattle.store_dm.specs.Triads.{FitsAll}
 use Rattle.store_dm.specs.Turns.{numbers}
 use Rattle.store_dm.proofs.RowLemmas.{triple_exact, triple_once}

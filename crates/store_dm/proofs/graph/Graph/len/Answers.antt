@@ -1,5 +1,5 @@
 use Rattle.std.proofs.Common.{subst}
-use Rattle.store_dm.specs.Graphs.{GraphValue, IsLawful}
+use Rattle.store_dm.specs.Graphs.{IsLawful}
 use Rattle.store_dm.proofs.graph.Graph.len.Goals as goal
 
 pub returns-clause-lawful : goal.returns-clause-lawful

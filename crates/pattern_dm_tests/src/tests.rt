@@ -1,0 +1,248 @@
+use grids_dm::{Grid, GridRow};
+use names_dm::{Iri, Literal, LiteralType, Term, Triple, Triples, Var, Vars};
+use pattern_dm::{Condition, Operand, Pattern, answer_grid, is_well_formed, solve, sparql_text};
+use solutions_dm::{Rename, Renames, Solutions};
+use sqlite_items::Boxed;
+use std::alloc::{AllocError, Global};
+use std::test::Fail;
+use store_dm::Graph;
+use value_dm::{Sequence, Text};
+
+fn text(alloc: Global, letters: &str) -> Result<Text, AllocError> {
+    Text::from_str(alloc, letters)
+}
+
+fn iri(alloc: Global, letters: &str) -> Result<Iri, Fail> {
+    let whole = format!(in alloc; "http://a/{letters}")?;
+    Ok(Iri::new(text(alloc, whole.as_str())?).ok_or("no IRI")?)
+}
+
+fn literal(alloc: Global, letters: &str) -> Result<Literal, AllocError> {
+    Ok(Literal::new(text(alloc, letters)?, LiteralType::Plain))
+}
+
+fn var(alloc: Global, letters: &str) -> Result<Var, Fail> {
+    Ok(Var::new(text(alloc, letters)?).ok_or("no variable")?)
+}
+
+// `?` and a variable, a literal between quotation marks, or the end of an IRI.
+fn operand(alloc: Global, letters: &str) -> Result<Operand, Fail> {
+    if let Some(name) = letters.strip_prefix('?') {
+        return Ok(Operand::Var(var(alloc, name)?));
+    }
+    match letters.strip_prefix('\'') {
+        Some(rest) => Ok(Operand::Literal(literal(alloc, rest)?)),
+        None => Ok(Operand::Iri(iri(alloc, letters)?)),
+    }
+}
+
+fn triple(alloc: Global, s: &str, p: &str, o: &str) -> Result<Pattern, Fail> {
+    Ok(Pattern::Triple(operand(alloc, s)?, operand(alloc, p)?, operand(alloc, o)?))
+}
+
+fn same(alloc: Global, a: &str, b: &str) -> Result<Condition, Fail> {
+    Ok(Condition::SameTerm(operand(alloc, a)?, operand(alloc, b)?))
+}
+
+fn negation(alloc: Global, part: Condition) -> Result<Condition, AllocError> {
+    Ok(Condition::Not(Boxed::new(alloc, part)?))
+}
+
+fn and(alloc: Global, p: Pattern, q: Pattern) -> Result<Pattern, AllocError> {
+    Ok(Pattern::And(Boxed::new(alloc, p)?, Boxed::new(alloc, q)?))
+}
+
+fn left_join(alloc: Global, p: Pattern, q: Pattern, f: Condition) -> Result<Pattern, AllocError> {
+    Ok(Pattern::LeftJoin(Boxed::new(alloc, p)?, Boxed::new(alloc, q)?, f))
+}
+
+fn less(alloc: Global, p: Pattern, q: Pattern) -> Result<Pattern, AllocError> {
+    Ok(Pattern::Minus(Boxed::new(alloc, p)?, Boxed::new(alloc, q)?))
+}
+
+fn either(alloc: Global, p: Pattern, q: Pattern) -> Result<Pattern, AllocError> {
+    Ok(Pattern::Union(Boxed::new(alloc, p)?, Boxed::new(alloc, q)?))
+}
+
+fn filter(alloc: Global, p: Pattern, f: Condition) -> Result<Pattern, AllocError> {
+    Ok(Pattern::Filter(Boxed::new(alloc, p)?, f))
+}
+
+fn select(alloc: Global, p: Pattern, from: &str, to: &str) -> Result<Pattern, Fail> {
+    let mut renames = Renames::new(alloc);
+    renames.push(Rename {
+        from: var(alloc, from)?,
+        to: var(alloc, to)?,
+    })?;
+    Ok(Pattern::Select(Boxed::new(alloc, p)?, renames))
+}
+
+fn add(alloc: Global, triples: &mut Triples, s: &str, p: &str, o: &str) -> Result<(), Fail> {
+    let subject = Term::Iri(iri(alloc, s)?);
+    let object = Term::Literal(literal(alloc, o)?);
+    triples.push(Triple::new(subject, iri(alloc, p)?, object).ok_or("a literal")?)?;
+    Ok(())
+}
+
+fn built(alloc: Global, triples: Triples) -> Result<Graph, Fail> {
+    if triples.len() <= 16777216 {
+        Ok(Graph::build(alloc, triples)?)
+    } else {
+        Err("too many triples")?
+    }
+}
+
+fn small_graph(alloc: Global) -> Result<Graph, Fail> {
+    let mut triples = Triples::new(alloc);
+    add(alloc, &mut triples, "1", "p", "x")?;
+    add(alloc, &mut triples, "2", "p", "y")?;
+    add(alloc, &mut triples, "1", "q", "z")?;
+    built(alloc, triples)
+}
+
+fn first(alloc: Global) -> Result<Pattern, Fail> {
+    triple(alloc, "?s", "p", "?v")
+}
+
+fn second(alloc: Global) -> Result<Pattern, Fail> {
+    triple(alloc, "?s", "q", "?w")
+}
+
+fn third(alloc: Global) -> Result<Pattern, Fail> {
+    triple(alloc, "?t", "q", "?w")
+}
+
+fn optional(alloc: Global) -> Result<Pattern, Fail> {
+    Ok(left_join(alloc, first(alloc)?, second(alloc)?, Condition::True)?)
+}
+
+fn vars(alloc: Global, names: &[&str]) -> Result<Vars, Fail> {
+    let mut header = Vars::new(alloc);
+    for name in names {
+        header.push(var(alloc, name)?)?;
+    }
+    Ok(header)
+}
+
+fn solved(alloc: Global, pattern: &Pattern, graph: &Graph) -> Result<Solutions, Fail> {
+    if is_well_formed(pattern) {
+        Ok(solve(alloc, pattern, graph)?)
+    } else {
+        Err("not well-formed")?
+    }
+}
+
+fn answers(alloc: Global, names: &[&str], pattern: &Pattern, graph: &Graph) -> Result<Grid, Fail> {
+    let header = vars(alloc, names)?;
+    if is_well_formed(pattern) {
+        let rows = solve(alloc, pattern, graph)?;
+        Ok(answer_grid(alloc, &header, &rows, graph)?)
+    } else {
+        Err("not well-formed")?
+    }
+}
+
+// The last character of a term.
+fn last(term: &Term) -> Option<char> {
+    match term {
+        Term::Iri(iri) => iri.as_str().chars().last(),
+        Term::Blank(label) => label.as_str().chars().last(),
+        Term::Literal(literal) => literal.text().as_str().chars().last(),
+    }
+}
+
+fn push_cell(out: &mut String, name: &str, cell: &Option<Term>) -> Result<(), Fail> {
+    if let Some(term) = cell {
+        out.push_str(" ")?;
+        out.push_str(name)?;
+        out.push_str("=")?;
+        out.push(last(term).ok_or("an empty term")?)?;
+    }
+    Ok(())
+}
+
+fn push_row(out: &mut String, names: &[&str], row: &GridRow) -> Result<(), Fail> {
+    for (name, cell) in names.iter().zip(row.as_slice()) {
+        push_cell(out, name, cell)?;
+    }
+    out.push_str(";")?;
+    Ok(())
+}
+
+// Each row as ` s=1 v=x;`.
+fn shown(alloc: Global, names: &[&str], grid: &Grid) -> Result<String, Fail> {
+    let mut out = String::new(alloc);
+    for row in grid.as_slice() {
+        push_row(&mut out, names, row)?;
+    }
+    Ok(out)
+}
+
+fn small_answers(alloc: Global, names: &[&str], pattern: &Pattern) -> Result<String, Fail> {
+    let graph = small_graph(alloc)?;
+    let grid = answers(alloc, names, pattern, &graph)?;
+    shown(alloc, names, &grid)
+}
+
+// The pattern of a row of the table below.
+fn pattern(alloc: Global, row: u8) -> Result<Pattern, Fail> {
+    match row {
+        1 => optional(alloc),
+        2 => Ok(less(alloc, first(alloc)?, second(alloc)?)?),
+        3 => Ok(less(alloc, first(alloc)?, Pattern::Empty)?),
+        4 => Ok(less(alloc, first(alloc)?, third(alloc)?)?),
+        5 => Ok(and(alloc, optional(alloc)?, third(alloc)?)?),
+        6 => not_same(alloc),
+        7 => unbound_or_same(alloc),
+        8 => {
+            let condition = same(alloc, "?v", "'y")?;
+            Ok(left_join(alloc, first(alloc)?, second(alloc)?, condition)?)
+        }
+        9 => select(alloc, first(alloc)?, "u", "k"),
+        10 => Ok(either(alloc, first(alloc)?, first(alloc)?)?),
+        11 => triple(alloc, "?s", "p", "?s"),
+        12 => triple(alloc, "?s", "missing", "?v"),
+        _ => Ok(filter(alloc, optional(alloc)?, same(alloc, "?v", "?w")?)?),
+    }
+}
+
+fn not_same(alloc: Global) -> Result<Pattern, Fail> {
+    let condition = negation(alloc, same(alloc, "?w", "'z")?)?;
+    Ok(filter(alloc, optional(alloc)?, condition)?)
+}
+
+fn unbound_or_same(alloc: Global) -> Result<Pattern, Fail> {
+    let unbound = negation(alloc, Condition::Bound(var(alloc, "w")?))?;
+    let same = same(alloc, "?w", "'z")?;
+    let condition = Condition::Or(Boxed::new(alloc, unbound)?, Boxed::new(alloc, same)?);
+    Ok(filter(alloc, optional(alloc)?, condition)?)
+}
+
+const ROWS: [&str; 13] = [
+    " s=1 v=x w=z; s=2 v=y;",
+    " s=2 v=y;",
+    " s=1 v=x; s=2 v=y;",
+    " s=1 v=x; s=2 v=y;",
+    " s=1 v=x w=z t=1; s=2 v=y w=z t=1;",
+    "",
+    " s=1 v=x w=z; s=2 v=y;",
+    " s=1 v=x; s=2 v=y;",
+    ";",
+    " s=1 v=x; s=2 v=y;",
+    "",
+    "",
+    "",
+];
+
+#[test]
+fn solutions_of_patterns(rt: HostRuntime) -> Result<(), Fail> {
+    let alloc = rt.alloc();
+    let names = ["s", "v", "w", "t", "k"];
+    let mut row = 1u8;
+    for expected in ROWS {
+        let found = small_answers(alloc, &names, &pattern(alloc, row)?)?;
+        assert_eq!(rt; found.as_str(), expected, "row {row}");
+        row = row.saturating_add(1);
+    }
+    Ok(())
+}
