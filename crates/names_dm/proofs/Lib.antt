@@ -8,8 +8,8 @@ pub mod NamesApart
 pub mod Parts
 mod Read
 pub mod ReadBack
-mod RowLabels
-mod SafeForms
+pub mod RowLabels
+pub mod SafeForms
 mod TextLists
 pub mod Told
 pub mod Utf8

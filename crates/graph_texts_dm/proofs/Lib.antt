@@ -1,0 +1,3 @@
+pub mod Iris
+pub mod Triples
+pub mod Texts
