@@ -23,7 +23,7 @@ fn push_number(text: &mut String, number: u64) -> Result<(), AllocError>
 }
 
 /// Appends a label and a number.
-fn push_labelled(text: &mut String, label: &str, number: u64) -> Result<(), AllocError>
+pub(crate) fn push_labelled(text: &mut String, label: &str, number: u64) -> Result<(), AllocError>
     ensures { OnOk result (string_bytes text.new ≡ string_bytes text.old ++ (label.now ++ decimal number)) }
 {
     text.push_str(label)?;
@@ -44,7 +44,7 @@ fn push_kind(text: &mut String, kind: &ViolationKind) -> Result<(), AllocError>
 
 /// Appends the line of a violation.
 #[tactic(auto, unfolding(crate::specs::Check::violation_line))]
-fn push_line(
+pub(crate) fn push_line(
     alloc: Global,
     text: &mut String,
     tables: &[Table],

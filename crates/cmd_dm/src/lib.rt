@@ -3,6 +3,7 @@
 
 mod causes;
 mod check;
+mod clean;
 mod command;
 mod fault_line;
 mod folder;
@@ -11,6 +12,7 @@ mod reasons;
 mod show;
 mod status;
 mod steps;
+mod storing;
 mod top;
 mod words;
 

@@ -9,6 +9,7 @@ ghost use Rattle.cmd_dm.specs.Words.{command_of};
 ghost use Rattle.cmd_dm.specs.declared.status.File.{File};
 
 use crate::check::run_check;
+use crate::clean::run_clean;
 use crate::command::Command;
 use crate::fault_line::tell;
 use crate::graphs::run_graph;
@@ -46,6 +47,11 @@ fn run_command<S: Shelf, K: Sink>(
             nulls,
         } => run_graph(alloc, GraphName::MapKeys, base, folder, *nulls, shelf, out),
         Command::Check { folder, nulls } => run_check(alloc, folder, *nulls, shelf, out),
+        Command::Clean {
+            folder,
+            out: stored,
+            nulls,
+        } => run_clean(alloc, folder, stored, *nulls, shelf, out),
         Command::Show { graph } => run_show(alloc, graph, shelf, out),
     }
 }
