@@ -1,10 +1,12 @@
 mod DanglingSteps
 mod FirstKey
 mod KeptLoops
-mod KeptRows
-mod Largest
+pub mod KeptRows
+pub mod Largest
 mod LoneRows
-mod OneCleaning
+pub mod OneCleaning
 mod ReferenceLemmas
 mod RepeatedSteps
 mod RowSetLemmas
+pub mod RowsLeft
+pub mod SomeCleaning

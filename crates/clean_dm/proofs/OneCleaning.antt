@@ -52,7 +52,7 @@ place_length RepeatedKey = refl
 place_length (RepeatedUnique n) = refl
 place_length (Dangling n) = refl
 
-due_length : (D : Data) (made : List Removal) (place : Place) (removal : Removal) → IsDue D made place removal → length place ≡ 5
+pub due_length : (D : Data) (made : List Removal) (place : Place) (removal : Removal) → IsDue D made place removal → length place ≡ 5
 due_length D made place removal due = ap length due.stands ∙ long removal.kind
   where
     long : (kind : ViolationKind) → length (turn_of kind ∷ due.t ∷ due.i ∷ place_of kind) ≡ 5

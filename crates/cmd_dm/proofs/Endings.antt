@@ -5,15 +5,17 @@ use Rattle.outside_dm.specs.Counts.{Rose}
 use Rattle.std.specs.Prelude.{IfSome, MatchBool}
 use Rattle.std.specs.FinMap.{get}
 use Rattle.std.proofs.lemmas.Bool.{lt-ltb}
-use Rattle.outside_dm.specs.Shelves.{Files, ShelfState, LoadKeeps, IsOverlong, longest}
+use Rattle.outside_dm.specs.Shelves.{Files, ShelfState, LoadKeeps, StoreKeeps, IsOverlong, longest}
 use Rattle.outside_dm.specs.Sinks.{SinkState, Puts}
-use Rattle.outside_dm.specs.Storing.{StoresAll, StoresFirst}
+use Rattle.outside_dm.specs.Storing.{Stores, StoresAll, StoresFirst}
+use Rattle.outside_dm.specs.declared.shelf.StoreError.{StoreError}
+use Rattle.outside_dm.specs.declared.shelf.StoreError.TheVariants.{Failed as StoreFailed, Memory as StoreMemory}
 use Rattle.outside_dm.specs.Putting.{Writes}
 use Rattle.outside_dm.specs.declared.sink.PutError.{PutError}
 use Rattle.outside_dm.specs.declared.sink.PutError.TheVariants.{Failed as PutFailed, Memory as PutMemory}
 use Rattle.cmd_dm.specs.Questions.{Question, AnswerTo, Answers}
 use Rattle.cmd_dm.specs.Script.{Script, Work, Outcome, text_work, load, ask, refuse, write, refused, absent, too_long, done, status_of, AfterLoad, Comes}
-use Rattle.cmd_dm.specs.Ending.{Grows, Target, to_output, to_shelf, to_both, Spares, Wrote, WroteSome, Untouched, WriteFaultRose, ToldComes, ToldWork, Means, CountsKept, Ends, Leads, Step, put_status, NoFault}
+use Rattle.cmd_dm.specs.Ending.{Grows, Target, to_output, to_shelf, to_both, Spares, Wrote, WroteSome, Untouched, WriteFaultRose, ToldComes, ToldWork, Means, CountsKept, Ends, Leads, Step, put_status, store_status, NoFault}
 use Rattle.cmd_dm.proofs.Outcomes.{outcome_unique}
 use Rattle.cmd_dm.specs.declared.status.File.{File}
 use Rattle.cmd_dm.specs.declared.status.Reason.{Reason}
@@ -257,6 +259,60 @@ ends_writes text s (Err PutMemory) w = record {
   means = inr (λ files told. (text_work text, (refl, inr (stores_none s.files, w.puts))));
   spares = (refl, refl);
   counts = counts_put s _ w;
+}
+
+counts_stored : {s t : ShelfState} {text : List ℕ} {o p : SinkState} (result : Result (Unit {0}) PutError) → StoreKeeps s t → Writes text o p result → CountsKept s t o p
+counts_stored {text = text} {o = o} {p = p} result stored w = record {
+  load_faults = omega (arith, stored.load_faults);
+  store_faults = stored.store_faults;
+  absences = omega (arith, stored.absences);
+  overlongs = omega (arith, stored.overlongs);
+  faults = w.kept.faults;
+  shortages = w.kept.shortages;
+  grown = puts_grown text o p result w.puts;
+}
+
+counts_cut : {s t : ShelfState} (o : SinkState) → StoreKeeps s t → CountsKept s t o o
+counts_cut o stored = record {
+  load_faults = omega (arith, stored.load_faults);
+  store_faults = stored.store_faults;
+  absences = omega (arith, stored.absences);
+  overlongs = omega (arith, stored.overlongs);
+  faults = omega arith;
+  shortages = omega arith;
+  grown = ([], Appends-nil o.held);
+}
+
+-- a store was refused, and nothing was put
+pub ends_cut : (work : Work) {s t : ShelfState} (o : SinkState) (error : StoreError) → Stores work.files s t (Err error) → Ends to_both (write work) s t o o (store_status {A = Unit {0}} (Err error))
+ends_cut work o StoreFailed h = record {
+  means = (inl h.ends.0, λ files told. (work, (refl, inl (h.ends.1, refl))));
+  spares = tt;
+  counts = counts_cut o h.kept;
+}
+ends_cut work o StoreMemory h = record {
+  means = inr (λ files told. (work, (refl, inl (h.ends, refl))));
+  spares = tt;
+  counts = counts_cut o h.kept;
+}
+
+-- all files were stored, and the text was put
+pub ends_stored : (work : Work) {s t : ShelfState} {o p : SinkState} (stored : Unit {0}) (result : Result (Unit {0}) PutError) → Stores work.files s t (Ok stored) → Writes work.text o p result →
+    Ends to_both (write work) s t o p (put_status result)
+ends_stored work stored (Ok x) h w = record {
+  means = λ files told. (work, (refl, record { files = h.ends; text = w.puts }));
+  spares = tt;
+  counts = counts_stored _ h.kept w;
+}
+ends_stored work stored (Err PutFailed) h w = record {
+  means = (inr w.puts.0, λ files told. (work, (refl, inr (h.ends, w.puts.1))));
+  spares = tt;
+  counts = counts_stored _ h.kept w;
+}
+ends_stored work stored (Err PutMemory) h w = record {
+  means = inr (λ files told. (work, (refl, inr (h.ends, w.puts))));
+  spares = tt;
+  counts = counts_stored _ h.kept w;
 }
 
 -- ---- what follows from how a command ended

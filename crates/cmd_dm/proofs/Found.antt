@@ -6,6 +6,8 @@ use Rattle.members_dm.specs.Places.{Place, IsListing}
 use Rattle.members_dm.proofs.AnyLemmas.{all_from_items}
 use Rattle.members_dm.proofs.MembershipLemmas.{IsIn-map}
 use Rattle.table_csv.specs.Databases.{Data}
+use Rattle.clean_dm.specs.Kept.{RowsExist}
+use Rattle.clean_dm.specs.declared.removal.Removal.{Removal}
 use Rattle.keys_dm.specs.Violations.{ViolatesAt}
 use Rattle.keys_dm.specs.declared.violation.Violation.{Violation}
 
@@ -22,3 +24,14 @@ listed_tables D found h = all_from_items (IsOfTable D) found (λ violation m.
   where
     of_table : (violation : Violation) (t : ℕ) → t < length D.tables → violation.table ≡ t + 1 → IsOfTable D violation
     of_table violation t below is = (omega (arith, is), omega (arith, below, is))
+
+-- the same of a removal
+abbrev IsRemovedFrom : Data → Removal → Type 0
+IsRemovedFrom D removal = (0 < removal.table) × (removal.table ≤ length D.tables)
+
+pub removed_tables : (D : Data) (removals : List Removal) → RowsExist D removals → All (λ removal. (0 < removal.table) × (removal.table ≤ length D.tables)) removals
+removed_tables D removals exist = all_from_items (IsRemovedFrom D) removals (λ removal m.
+    let found = exist removal m in
+    let table : removal.table ≡ found.0 + 1 = found.2.0 in
+    let below : found.0 < length D.tables = found.3 in
+    (omega arith, omega arith))

@@ -4,5 +4,6 @@ pub mod Lines
 pub mod StepLaws
 pub mod Found
 pub mod Subjects
+pub mod FileLemmas
 pub mod SomeOutcome
 pub mod Promises

@@ -1,5 +1,5 @@
 -- One thing comes of a script.
-use Rattle.std.proofs.Common.{◌≡◌, ◌∙◌, sym, ap, subst, inl, inr, ℕ, List, length, Option, Some, None, Result, Ok, Err, true, false, nat_lt}
+use Rattle.std.proofs.Common.{◌≡◌, ◌∙◌, refl, sym, ap, subst, inl, inr, ℕ, List, [], ◌∷◌, length, Option, Some, None, Result, Ok, Err, true, false, nat_lt}
 use Rattle.std.specs.Prelude.{MatchBool}
 use Rattle.std.specs.FinMap.{get}
 use Rattle.members_dm.proofs.PlacesLemmas.{listing_unique}
@@ -29,7 +29,14 @@ use Rattle.ntriples_reader_dm.proofs.OneAnswer.{one_answer}
 use Rattle.consistency_dm.proofs.FirstConflicts.{one_verdict}
 use Rattle.keys_dm.specs.Violations.{ViolatesAt}
 use Rattle.graphs_dm.proofs.GraphLevels.{graph_text_unique}
-use Rattle.cmd_dm.specs.Questions.{Question, AnswerTo, Answers, IsSchemaAnswer, IsRowsAnswer, IsTriplesAnswer, schema_of, rows_of, triples_of, verdict_of, violations_of, graph_of}
+use Rattle.cmd_dm.specs.Questions.{Question, AnswerTo, Answers, IsSchemaAnswer, IsRowsAnswer, IsTriplesAnswer, schema_of, rows_of, triples_of, verdict_of, violations_of, graph_of, removals_of, left_of, files_of}
+use Rattle.outside_dm.specs.Storing.{Batch}
+use Rattle.schema_dm.specs.declared.table.ShapeTable.{ShapeTable}
+use Rattle.table_csv.proofs.OneText.{text_one}
+use Rattle.clean_dm.specs.Removing.{IsLeft}
+use Rattle.clean_dm.proofs.OneCleaning.{one_cleaning}
+use Rattle.clean_dm.proofs.RowsLeft.{rows_one}
+use Rattle.cmd_dm.specs.Folder.{AreFilesOf}
 use Rattle.cmd_dm.specs.Reasons.{ddl_status, graph_status, table_status}
 use Rattle.cmd_dm.specs.Script.{Script, Outcome, too_long, load, ask, refuse, write, AfterLoad, Comes}
 use Rattle.cmd_dm.specs.declared.status.File.{File}
@@ -121,6 +128,24 @@ triples_answer_unique bytes (Err r) (Err s) h k =
     (one_answer bytes (Err h.0) (Err k.0) h.1 k.1 (err_answered h.0 (told_graph h.0 r h.2)) (err_answered k.0 (told_graph k.0 s k.2))) in
     ap Err (refusal_one r s (sym h.2 ∙ ap graph_status same ∙ k.2))
 
+-- ---- files
+
+pub files_one : (folder : List ℕ) (tables : List ShapeTable) (rows : List (List Row)) (a b : Batch) → AreFilesOf folder tables rows a → AreFilesOf folder tables rows b → a ≡ b
+files_one folder [] [] [] [] h k = refl
+files_one folder [] [] [] (y ∷ b) h k = absurd k
+files_one folder [] [] (x ∷ a) b h k = absurd h
+files_one folder [] (r ∷ rows) [] b h k = absurd h
+files_one folder [] (r ∷ rows) (x ∷ a) b h k = absurd h
+files_one folder (t ∷ tables) [] [] b h k = absurd h
+files_one folder (t ∷ tables) [] (x ∷ a) b h k = absurd h
+files_one folder (t ∷ tables) (r ∷ rows) [] b h k = absurd h
+files_one folder (t ∷ tables) (r ∷ rows) (x ∷ a) [] h k = absurd k
+files_one folder (t ∷ tables) (r ∷ rows) (x ∷ a) (y ∷ b) h k =
+    let name : x.0 ≡ y.0 = h.0.name ∙ sym k.0.name in
+    let text : x.1 ≡ y.1 = text_one t.columns r x.1 y.1 h.0.text k.0.text in
+    let rest : a ≡ b = files_one folder tables rows a b h.1 k.1 in
+    λ i. (name i, text i) ∷ rest i
+
 -- ---- answers
 
 -- a question has one right answer
@@ -131,6 +156,9 @@ answer_unique (violations_of D) a b h k = listing_unique (ViolatesAt D) a b h k
 answer_unique (triples_of bytes) a b h k = triples_answer_unique bytes a b h k
 answer_unique (verdict_of triples) a b h k = one_verdict triples a b h k
 answer_unique (graph_of name base D) a b h k = graph_text_unique name base D a b h k
+answer_unique (removals_of D) a b h k = one_cleaning D a b h k
+answer_unique (left_of D removals) a b h k = rows_one D (IsLeft removals) a b h k
+answer_unique (files_of folder tables rows) a b h k = files_one folder tables rows a b h k
 
 after_load_unique : (file : File) (content : Option (List ℕ)) (rest : List ℕ → Outcome → Type 0) →
     ((bytes : List ℕ) (o p : Outcome) → rest bytes o → rest bytes p → o ≡ p) →

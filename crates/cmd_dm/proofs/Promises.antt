@@ -1,6 +1,6 @@
 -- What follows of how a run ended for the words as a whole.
-use Rattle.std.proofs.Common.{◌≡◌, ◌∙◌, refl, sym, ap, subst, inl, inr, ◌⊎◌, ℕ, ◌+◌, ◌≤◌, List, [], ◌∷◌, length, Option, Some, None, Result, Ok, Err, true, false, Bool, cond}
-use Rattle.std.specs.Prelude.{IsTrue, IfSome, MatchBool, encode_utf8_all}
+use Rattle.std.proofs.Common.{◌≡◌, ◌∙◌, refl, sym, ap, subst, inl, inr, ◌⊎◌, ℕ, ◌+◌, ◌≤◌, List, [], ◌∷◌, length, Option, Some, None, Result, Ok, Err, true, false, Bool, cond, arith, zero, suc, ◌<◌}
+use Rattle.std.specs.Prelude.{IsTrue, IfSome, MatchBool, encode_utf8_all, map}
 use Rattle.std.specs.List.{AllZip, flat_map}
 use Rattle.std.specs.FinMap.{get}
 use Rattle.std.specs.Io.KnownBytes.{Appends}
@@ -18,14 +18,16 @@ use Rattle.schema_dm.specs.declared.table.Table.{Table}
 use Rattle.outside_dm.specs.Shelves.{Files, ShelfState, longest}
 use Rattle.outside_dm.specs.Sinks.{SinkState}
 use Rattle.table_csv.specs.Cells.{Row}
-use Rattle.table_csv.specs.Databases.{Data}
+use Rattle.table_csv.specs.Databases.{Data, IsDatabase, rows_at}
 use Rattle.table_csv.specs.Cells.{AreRowsOf}
-use Rattle.table_csv.specs.Databases.{IsDatabase}
 use Rattle.table_csv.specs.TableFiles.{records_of}
 use Rattle.table_csv.proofs.FittingRows.{read_rows_fit}
 use Rattle.table_csv.proofs.HeaderLemmas.{fields_differ}
 use Rattle.consistency_dm.specs.Conflicts.{IsVerdict}
 use Rattle.consistency_dm.specs.declared.verdict.Verdict.{Verdict}
+use Rattle.clean_dm.specs.Removing.{IsLeft}
+use Rattle.clean_dm.proofs.KeptRows.{kept_keeps}
+use Rattle.clean_dm.proofs.OneCleaning.{cleaning_is_largest}
 use Rattle.keys_dm.specs.Violations.{ViolatesAt}
 use Rattle.keys_dm.specs.declared.violation.Violation.{Violation}
 use Rattle.keys_dm.proofs.DatabaseLevels.{none_listed}
@@ -37,22 +39,24 @@ use Rattle.cmd_dm.specs.Check.{check_script, check_text}
 use Rattle.cmd_dm.specs.Consistent.{consistent_script, verdict_text}
 use Rattle.cmd_dm.specs.Show.{show_script}
 use Rattle.cmd_dm.specs.GraphScript.{graph_script}
-use Rattle.cmd_dm.specs.Ending.{Ends, NoFault, Target, to_output}
-use Rattle.cmd_dm.specs.Folder.{schema_file, table_file}
-use Rattle.cmd_dm.specs.Headline.{HoldsFile, HoldsTables, HoldsDatabase, EndsSo, WritesText, WritesKept, WritesFolder, Checks, Shows, Judges, Promises}
+use Rattle.cmd_dm.specs.Ending.{Ends, NoFault, Target, to_output, to_both}
+use Rattle.cmd_dm.specs.Folder.{schema_file, table_file, shape_of}
+use Rattle.cmd_dm.specs.Headline.{HoldsFile, HoldsTables, HoldsDatabase, EndsSo, WritesText, WritesKept, WritesFolder, Checks, Shows, Judges, Promises, Cleans, IsCleanWork}
 use Rattle.cmd_dm.specs.Plans.{IsOutcome, NamesFile, folder_file, graph_file, plan_of}
-use Rattle.cmd_dm.specs.Questions.{violations_of, verdict_of, graph_of}
+use Rattle.cmd_dm.specs.Questions.{violations_of, verdict_of, graph_of, removals_of, left_of, files_of}
+use Rattle.cmd_dm.specs.Clean.{clean_script, clean_work}
 use Rattle.cmd_dm.specs.Reasons.{bad_base, key_reason}
 use Rattle.cmd_dm.specs.Script.{Script, Work, Outcome, usage, refused, done, text_work, too_long, status_of, Comes, AfterLoad, MayLoad, ask, write, refuse}
-use Rattle.cmd_dm.specs.Steps.{base_step, schema_step, rows_step, tables_step, database_step, graph_step, kept_step, keys_step, triples_step, on_answer, on_violations}
+use Rattle.cmd_dm.specs.Steps.{base_step, schema_step, rows_step, tables_step, database_step, folder_step, graph_step, kept_step, keys_step, triples_step, on_answer, on_violations}
 use Rattle.cmd_dm.proofs.Endings.{ends_exact, status_comes}
 use Rattle.cmd_dm.proofs.Outcomes.{outcome_unique, schema_answer_unique, rows_answer_unique, triples_answer_unique}
 use Rattle.cmd_dm.proofs.SomeOutcome.{declared_schema}
 use Rattle.cmd_dm.specs.declared.command.Command.{Command}
-use Rattle.cmd_dm.specs.declared.command.Command.TheVariants.{Direct, Map, MapKeys, Check, Show, Consistent}
+use Rattle.cmd_dm.specs.declared.command.Command.TheVariants.{Direct, Map, MapKeys, Check, Show, Consistent, Clean}
 use Rattle.cmd_dm.specs.declared.status.File.{File}
 use Rattle.cmd_dm.specs.declared.status.File.TheVariants.{Schema, Table as TableFile, Query, Graph, Pattern, More}
 use Rattle.cmd_dm.specs.declared.status.Reason.{Reason}
+use Rattle.cmd_dm.specs.declared.steps.LoadedFolder.{LoadedFolder}
 use Rattle.cmd_dm.specs.declared.status.Status.{Status}
 use Rattle.cmd_dm.specs.declared.status.Status.TheVariants.{Usage, ReadFault, Memory}
 
@@ -101,27 +105,33 @@ tables_may_load folder mode before (table ∷ tables) next file name none (inr h
     answer_may_load h.1.1.0 (λ rows. tables_step folder mode (before + 1) tables (λ others. next (rows ∷ others))) file name ((number : ℕ) × (TableFile number ≡ file))
     (λ rows. tables_may_load folder mode (before + 1) tables (λ others. next (rows ∷ others)) file name (λ others. none (rows ∷ others))) h.1.1.1.1
 
-database_may_load : (folder : List ℕ) (mode : NullMode) (next : Data → Script) (name : List ℕ) →
-    ((D : Data) → ¬ MayLoad (next D) Schema name) → MayLoad (database_step folder mode next) Schema name → name ≡ schema_file folder
-unfolding database_step schema_step
-database_may_load folder mode next name none (inl h) = sym h.1
-database_may_load folder mode next name none (inr h) =
-    answer_may_load h.1.1.0 (λ tables. tables_step folder mode 0 tables (λ rows. next (record { tables = tables; rows = rows }))) Schema name (name ≡ schema_file folder)
+schema_may_load : (folder : List ℕ) (mode : NullMode) (next : LoadedFolder → Script) (name : List ℕ) →
+    ((loaded : LoadedFolder) → ¬ MayLoad (next loaded) Schema name) → MayLoad (folder_step folder mode next) Schema name → name ≡ schema_file folder
+unfolding folder_step schema_step
+schema_may_load folder mode next name none (inl h) = sym h.1
+schema_may_load folder mode next name none (inr h) =
+    let loaded : List Table → List (List Row) → LoadedFolder = λ tables rows. record { schema = h.0; database = record { tables = tables; rows = rows } } in
+    answer_may_load h.1.1.0 (λ tables. tables_step folder mode 0 tables (λ rows. next (loaded tables rows))) Schema name (name ≡ schema_file folder)
     (λ tables k.
-    let table = tables_may_load folder mode 0 tables (λ rows. next (record { tables = tables; rows = rows })) Schema name (λ rows. none (record { tables = tables; rows = rows })) k in
+    let table = tables_may_load folder mode 0 tables (λ rows. next (loaded tables rows)) Schema name (λ rows. none (loaded tables rows)) k in
     absurd (no_schema table.0 table.1)) h.1.1.1.1
   where
     no_schema : (number : ℕ) → TableFile number ≡ Schema → ⊥
     no_schema number e = absurd cc
 
-folder_names : (folder : List ℕ) (mode : NullMode) (next : Data → Script) (file : File) (name : List ℕ) →
-    ((D : Data) (file : File) → ¬ MayLoad (next D) file name) → MayLoad (database_step folder mode next) file name → IfSome (folder_file folder file) (λ named. name ≡ named)
-folder_names folder mode next Schema name none h = database_may_load folder mode next name (λ D. none D Schema) h
+folder_names : (folder : List ℕ) (mode : NullMode) (next : LoadedFolder → Script) (file : File) (name : List ℕ) →
+    ((loaded : LoadedFolder) (file : File) → ¬ MayLoad (next loaded) file name) → MayLoad (folder_step folder mode next) file name → IfSome (folder_file folder file) (λ named. name ≡ named)
+folder_names folder mode next Schema name none h = schema_may_load folder mode next name (λ loaded. none loaded Schema) h
 folder_names folder mode next (TableFile number) name none h = tt
 folder_names folder mode next Query name none h = tt
 folder_names folder mode next Graph name none h = tt
 folder_names folder mode next Pattern name none h = tt
 folder_names folder mode next (More number) name none h = tt
+
+database_names : (folder : List ℕ) (mode : NullMode) (next : Data → Script) (file : File) (name : List ℕ) →
+    ((D : Data) (file : File) → ¬ MayLoad (next D) file name) → MayLoad (database_step folder mode next) file name → IfSome (folder_file folder file) (λ named. name ≡ named)
+unfolding database_step
+database_names folder mode next file name none h = folder_names folder mode (λ loaded. next loaded.database) file name (λ loaded. none loaded.database) h
 
 -- what is done behind the keys
 abbrev put_script : GraphName → List ℕ → Data → Script
@@ -148,11 +158,17 @@ mapped name base D = kept_step name D (λ _. put_script name base D)
 abbrev checked : Data → Script
 checked D = ask (violations_of D) (λ found. write (text_work (check_text D.tables found)))
 
+-- what is done behind the folder
+abbrev cleaned : List ℕ → LoadedFolder → Script
+cleaned out loaded =
+    ask (removals_of loaded.database) (λ removals. ask (left_of loaded.database removals) (λ rows.
+    ask (files_of out (map shape_of loaded.database.tables) rows) (λ batch. write (clean_work out loaded removals batch))))
+
 graph_names : (graph_name : GraphName) (base folder : List ℕ) (nulls : NullMode) (file : File) (name : List ℕ) → MayLoad (graph_script graph_name base folder nulls) file name →
     IfSome (folder_file folder file) (λ named. name ≡ named)
 unfolding base_step
 graph_names graph_name base folder nulls file name h =
-    folder_names folder nulls (mapped graph_name base) file name (λ D file. kept_loads_nothing graph_name D (λ _. put_script graph_name base D) file name (λ h. h.1.1))
+    database_names folder nulls (mapped graph_name base) file name (λ D file. kept_loads_nothing graph_name D (λ _. put_script graph_name base D) file name (λ h. h.1.1))
     (base_may_load (is_base base) (database_step folder nulls (mapped graph_name base)) file name h)
 
 -- what is done behind the triples
@@ -182,7 +198,8 @@ command_names (MapKeys base folder nulls) file name h = graph_names graph.MapKey
 command_names (Show document) file name h =
     show_names document file name (graph_may_load document (λ triples. write (text_work (flat_map triple_text triples))) file name (λ triples k. k) h)
 command_names (Consistent document) file name h = show_names document file name (graph_may_load document judged file name (λ triples k. k.1.1) h)
-command_names (Check folder nulls) file name h = folder_names folder nulls checked file name (λ D file h. h.1.1) h
+command_names (Clean folder out nulls) file name h = folder_names folder nulls (cleaned out) file name (λ loaded file h. h.1.1.1.1.1.1) h
+command_names (Check folder nulls) file name h = database_names folder nulls checked file name (λ D file h. h.1.1) h
 
 -- the file at which the shelf failed is the one that was told
 pub names_failed : (command : Command) (file : File) {s t : ShelfState} {o p : SinkState} (status : Status) →
@@ -217,16 +234,22 @@ tables_come files folder mode before (table ∷ tables) (r ∷ rows) next outcom
     let right = rows_answer_unique table.columns mode (before + 1) held.0.bytes asked.0 (Ok r) asked.1.0.0 asked.1.0.1 held.0.reads in
     tables_come files folder mode (before + 1) tables rows (λ others. next (r ∷ others)) outcome held.1 (on_known files asked.0 r step outcome right asked.1.1)
 
+-- the folder is the one that its files are
+folder_comes : (files : Files) (folder : List ℕ) (mode : NullMode) (D : Data) (next : LoadedFolder → Script) (outcome : Outcome) (held : HoldsDatabase files folder mode D) →
+    Comes files (folder_step folder mode next) outcome → Comes files (next (record { schema = held.bytes; database = D })) outcome
+unfolding folder_step schema_step
+folder_comes files folder mode D next outcome held h =
+    let step : List ℕ → List Table → Script = λ bytes tables. tables_step folder mode 0 tables (λ rows. next (record { schema = bytes; database = record { tables = tables; rows = rows } })) in
+    let asked = after_load Schema (get files (schema_file folder)) held.bytes (λ bytes. Comes files (schema_step bytes (step bytes)) outcome) outcome held.holds.held held.holds.short h in
+    let right = schema_answer_unique held.bytes asked.0 (Ok D.tables) asked.1.0 held.reads in
+    tables_come files folder mode 0 D.tables D.rows (λ rows. next (record { schema = held.bytes; database = record { tables = D.tables; rows = rows } })) outcome held.tables
+    (on_known files asked.0 D.tables (step held.bytes) outcome right asked.1.1)
+
 -- the folder's database is the one that its files are
 database_comes : (files : Files) (folder : List ℕ) (mode : NullMode) (D : Data) (next : Data → Script) (outcome : Outcome) →
     HoldsDatabase files folder mode D → Comes files (database_step folder mode next) outcome → Comes files (next D) outcome
-unfolding database_step schema_step
-database_comes files folder mode D next outcome held h =
-    let step : List Table → Script = λ tables. tables_step folder mode 0 tables (λ rows. next (record { tables = tables; rows = rows })) in
-    let asked = after_load Schema (get files (schema_file folder)) held.bytes (λ bytes. Comes files (schema_step bytes step) outcome) outcome held.holds.held held.holds.short h in
-    let right = schema_answer_unique held.bytes asked.0 (Ok D.tables) asked.1.0 held.reads in
-    tables_come files folder mode 0 D.tables D.rows (λ rows. next (record { tables = D.tables; rows = rows })) outcome held.tables
-    (on_known files asked.0 D.tables step outcome right asked.1.1)
+unfolding database_step
+database_comes files folder mode D next outcome held h = folder_comes files folder mode D (λ loaded. next loaded.database) outcome held h
 
 -- ---- what is written
 
@@ -316,6 +339,55 @@ checks folder nulls files D status ends told held =
     let asked = database_comes files folder nulls D checked outcome held h in
     (check_text D.tables asked.0, ((asked.0, asked.1.0, refl), asked.1.1)))
 
+-- files of tables are rows for no more tables than there are
+held_within : (files : Files) (folder : List ℕ) (mode : NullMode) (tables : List Table) (rows : List (List Row)) → HoldsTables files folder mode tables rows → (t i : ℕ) → i < length (rows_at rows t) → t < length tables
+held_within files folder mode [] [] held t i below = absurd (omega arith)
+held_within files folder mode [] (r ∷ rows) held t i below = absurd held
+held_within files folder mode (table ∷ tables) [] held t i below = absurd held
+held_within files folder mode (table ∷ tables) (r ∷ rows) held zero i below = omega arith
+held_within files folder mode (table ∷ tables) (r ∷ rows) held (suc t) i below = (let less = held_within files folder mode tables rows held.1 t i below in omega arith)
+
+cleans : (folder out : List ℕ) (nulls : NullMode) (files : Files) (D : Data) {s t : ShelfState} {o p : SinkState} (status : Status) →
+    Ends to_both (clean_script folder out nulls) s t o p status → s.files ≡ Some files → (held : HoldsDatabase files folder nulls D) → Cleans out held.bytes D s t o p status
+cleans folder out nulls files D {s = s} {t = t} {o = o} {p = p} status ends told held = record {
+  no_fault = λ calm. elim (status_comes _ _ _ _ _ _ _ ends files told calm) [
+    | inl h ↦ inl (h.1.1 ∙ ap status_of (comes h.0 h.1.0).1.1)
+    | inr memory ↦ inr memory
+  ];
+  written = λ well.
+      let at = subst (λ (x : Status). Ends to_both (clean_script folder out nulls) s t o p x) well ends in
+      let work = at.means files told in
+      let found = comes (done work.0) work.1.0 in
+      (work.0, (subst (λ (w : Work). IsCleanWork out held.bytes D w) (sym (done_one work.0 found.0 found.1.1)) found.1.0, work.1.1));
+}
+  where
+    comes : (outcome : Outcome) → Comes files (clean_script folder out nulls) outcome → (work : Work) × (IsCleanWork out held.bytes D work × (outcome ≡ done work))
+    comes outcome h =
+        let asked = folder_comes files folder nulls D (cleaned out) outcome held h in
+        let removals = asked.0 in
+        let rows = asked.1.1.0 in
+        let batch = asked.1.1.1.1.0 in
+        let largest = cleaning_is_largest D removals asked.1.0 in (
+          clean_work out (record { schema = held.bytes; database = D }) removals batch,
+          (
+            record {
+              removals = removals;
+              rows = rows;
+              files = batch;
+              cleaning = asked.1.0;
+              left = asked.1.1.1.0;
+              largest = largest;
+              kept = kept_keeps D (IsLeft removals) rows asked.1.1.1.0 largest.lawful (held_within files folder nulls D.tables D.rows held.tables);
+              tables = asked.1.1.1.1.1.0;
+              is = refl;
+            },
+            asked.1.1.1.1.1.1,
+          ),
+        )
+
+    done_one : (v w : Work) → ◌≡◌ {A = Outcome} (done v) (done w) → v ≡ w
+    done_one v w e = cc
+
 shows : (document : List ℕ) (files : Files) (bytes : List ℕ) (triples : List Statement) {s t : ShelfState} {o p : SinkState} (status : Status) → Ends to_output (show_script document) s t o p status →
     s.files ≡ Some files → HoldsFile files (encode_utf8_all document) bytes → IsDocument bytes triples → length triples ≤ limit → Shows triples s t o p status
 unfolding graph_step triples_step
@@ -343,4 +415,5 @@ promised (Map base folder nulls) status ends = writes_graph graph.Map base folde
 promised (MapKeys base folder nulls) status ends = writes_graph graph.MapKeys base folder nulls status ends
 promised (Show document) status ends = λ files bytes triples told held is few. shows document files bytes triples status ends told held is few
 promised (Consistent document) status ends = λ files bytes triples told held is few. judges document files bytes triples status ends told held is few
+promised (Clean folder out nulls) status ends = λ files D told held. cleans folder out nulls files D status ends told held
 promised (Check folder nulls) status ends = λ files D told held. checks folder nulls files D status ends told held

@@ -1,6 +1,6 @@
 -- Something comes of each command, over all files.
 use Rattle.std.proofs.Common.{◌≡◌, ◌∙◌, ◌++◌, ◌≤◌, arith, append_assoc, ⊎_elim, ℕ, ◌+◌, List, [], ◌∷◌, length, Option, Some, None, Result, Ok, Err, refl, true, false, Bool, nat_lt, subst, sym, cond, inl, inr}
-use Rattle.std.specs.Prelude.{MatchBool, encode_utf8_all, option_to_list}
+use Rattle.std.specs.Prelude.{MatchBool, encode_utf8_all, map, option_to_list}
 use Rattle.std.specs.List.{AllZip, flat_map}
 use Rattle.std.specs.FinMap.{get}
 use Rattle.std.proofs.lemmas.Bool.{cases_lt}
@@ -44,22 +44,29 @@ use Rattle.graphs_dm.specs.Graphs.{IsDefined}
 use Rattle.graphs_dm.specs.declared.graph_name.GraphName.{GraphName}
 use Rattle.graphs_dm.specs.declared.graph_name.GraphName.TheVariants as graph
 use Rattle.graphs_dm.proofs.GraphLevels.{some_text}
-use Rattle.cmd_dm.specs.Folder.{schema_file, table_file}
+use Rattle.outside_dm.specs.Storing.{Batch}
+use Rattle.table_csv.proofs.OneText.{text_some}
+use Rattle.clean_dm.specs.Removing.{IsLeft}
+use Rattle.clean_dm.proofs.RowsLeft.{rows_some}
+use Rattle.clean_dm.proofs.SomeCleaning.{cleaning_some}
+use Rattle.cmd_dm.specs.Clean.{clean_script, clean_work}
+use Rattle.cmd_dm.specs.Folder.{AreFilesOf, schema_file, shape_of, table_file}
 use Rattle.cmd_dm.specs.GraphScript.{graph_script}
 use Rattle.cmd_dm.specs.Plans.{IsOutcome}
-use Rattle.cmd_dm.specs.Questions.{IsSchemaAnswer, IsRowsAnswer, IsTriplesAnswer, graph_of, verdict_of, violations_of}
+use Rattle.cmd_dm.specs.Questions.{IsSchemaAnswer, IsRowsAnswer, IsTriplesAnswer, graph_of, verdict_of, violations_of, files_of, left_of, removals_of}
 use Rattle.cmd_dm.specs.Reasons.{bad_base, cause_code, key_reason, reason}
 use Rattle.cmd_dm.specs.Script.{Script, Outcome, usage, refused, absent, too_long, done, text_work, AfterLoad, Comes, ask, refuse, write}
-use Rattle.cmd_dm.specs.Steps.{base_step, database_step, graph_step, kept_step, keys_step, on_answer, on_violations, rows_step, schema_step, tables_step, triples_step}
+use Rattle.cmd_dm.specs.Steps.{base_step, database_step, folder_step, graph_step, kept_step, keys_step, on_answer, on_violations, rows_step, schema_step, tables_step, triples_step}
 use Rattle.cmd_dm.specs.Check.{check_text}
 use Rattle.cmd_dm.specs.Consistent.{consistent_script, verdict_text}
 use Rattle.cmd_dm.specs.Show.{show_script}
 use Rattle.cmd_dm.specs.declared.command.Command.{Command}
 use Rattle.cmd_dm.proofs.Subjects.{document_subjects}
-use Rattle.cmd_dm.specs.declared.command.Command.TheVariants.{Direct, Map, MapKeys, Check, Show, Consistent}
+use Rattle.cmd_dm.specs.declared.command.Command.TheVariants.{Direct, Map, MapKeys, Check, Show, Consistent, Clean}
 use Rattle.cmd_dm.specs.declared.status.File.{File}
 use Rattle.cmd_dm.specs.declared.status.File.TheVariants.{Schema, Table as TableFile, Graph}
 use Rattle.cmd_dm.specs.declared.status.Reason.{Reason}
+use Rattle.cmd_dm.specs.declared.steps.LoadedFolder.{LoadedFolder}
 
 -- ---- answers
 
@@ -167,20 +174,23 @@ tables_some files folder mode before (t ∷ tables) next distinct some none =
 pub declared_schema : (bytes : List ℕ) (tables : List Table) → IsDdl bytes tables → IsSchema tables
 declared_schema bytes tables h = subst IsSchema (sym h.2.2) (lawful_schema (drafts_of h.0) h.2.1)
 
-database_some : (files : Files) (folder : List ℕ) (mode : NullMode) (next : Data → Script) → ((D : Data) → IsDatabase D → SomeComes files (next D)) → SomeComes files (database_step folder mode next)
-unfolding database_step schema_step
-database_some files folder mode next some none =
-    let step : List Table → Script = λ tables. tables_step folder mode 0 tables (λ rows. next (record { tables = tables; rows = rows })) in
-    some_loaded Schema (get files (schema_file folder)) (λ bytes o. Comes files (schema_step bytes step) o)
+folder_some : (files : Files) (folder : List ℕ) (mode : NullMode) (next : LoadedFolder → Script) → ((loaded : LoadedFolder) → IsDatabase loaded.database → SomeComes files (next loaded)) → SomeComes files (folder_step folder mode next)
+unfolding folder_step schema_step
+folder_some files folder mode next some none =
+    some_loaded Schema (get files (schema_file folder)) (λ bytes o. Comes files (schema_step bytes (λ tables. tables_step folder mode 0 tables (λ rows. next (record { schema = bytes; database = record { tables = tables; rows = rows } })))) o)
     (λ bytes none. schema_answer_some bytes (λ answer right. on_tables bytes answer right (λ o comes. none o (answer, (right, comes))))) none
   where
     on_tables : (bytes : List ℕ) (answer : Result (List Table) Reason) → IsSchemaAnswer bytes answer
-        → SomeComes files (on_answer answer (λ tables. tables_step folder mode 0 tables (λ rows. next (record { tables = tables; rows = rows }))))
+        → SomeComes files (on_answer answer (λ tables. tables_step folder mode 0 tables (λ rows. next (record { schema = bytes; database = record { tables = tables; rows = rows } }))))
     on_tables bytes (Ok tables) right none =
         let schema = declared_schema bytes tables right in
-        tables_some files folder mode 0 tables (λ rows. next (record { tables = tables; rows = rows })) (λ t m. (schema.each t m).distinct)
-        (λ rows fit. some (record { tables = tables; rows = rows }) (record { schema = schema; rows = fit })) none
+        tables_some files folder mode 0 tables (λ rows. next (record { schema = bytes; database = record { tables = tables; rows = rows } })) (λ t m. (schema.each t m).distinct)
+        (λ rows fit. some (record { schema = bytes; database = record { tables = tables; rows = rows } }) (record { schema = schema; rows = fit })) none
     on_tables bytes (Err why) right none = none (refused why) refl
+
+database_some : (files : Files) (folder : List ℕ) (mode : NullMode) (next : Data → Script) → ((D : Data) → IsDatabase D → SomeComes files (next D)) → SomeComes files (database_step folder mode next)
+unfolding database_step
+database_some files folder mode next some none = folder_some files folder mode (λ loaded. next loaded.database) (λ loaded. some loaded.database) none
 
 -- ---- commands
 
@@ -239,6 +249,24 @@ consistent_some files name none =
     on_triples bytes (Ok triples) right none =
         verdict_some triples (document_subjects (lines bytes) triples right.0) (λ verdict is. none (done (text_work (verdict_text verdict))) (verdict, (is, refl)))
     on_triples bytes (Err why) right none = none (refused why) refl
+-- tables with rows have files
+files_some : (folder : List ℕ) (tables : List Table) (rows : List (List Row)) → length rows ≡ length tables → (files : Batch) × AreFilesOf folder (map shape_of tables) rows files
+files_some folder [] [] long = ([], tt)
+files_some folder [] (r ∷ rows) long = absurd (omega arith)
+files_some folder (t ∷ tables) [] long = absurd (omega arith)
+files_some folder (t ∷ tables) (r ∷ rows) long =
+    let text = text_some t.columns r in
+    let rest = files_some folder tables rows (omega arith) in
+    ((table_file folder t.name, text.0) ∷ rest.0, (record { name = refl; text = text.1 }, rest.1))
+
+clean_some : (files : Files) (folder out : List ℕ) (nulls : NullMode) → SomeComes files (clean_script folder out nulls)
+clean_some files folder out nulls =
+    folder_some files folder nulls (λ loaded.
+    ask (removals_of loaded.database) (λ removals. ask (left_of loaded.database removals) (λ rows.
+    ask (files_of out (map shape_of loaded.database.tables) rows) (λ batch. write (clean_work out loaded removals batch)))))
+    (λ loaded database none. cleaning_some loaded.database (λ removals cleaning. rows_some loaded.database (IsLeft removals) (λ rows left.
+    let made = files_some out loaded.database.tables rows left.many in
+    none (done (clean_work out loaded removals made.0)) (removals, (cleaning, (rows, (left, (made.0, (made.1, refl)))))))))
 
 -- something comes of words
 pub words_some : (files : Files) (command : Option Command) → ¬ ((outcome : Outcome) → ¬ IsOutcome files command outcome)
@@ -246,6 +274,7 @@ words_some files None none = none usage refl
 words_some files (Some (Direct base folder nulls)) none = graph_some files graph.Direct base folder nulls none
 words_some files (Some (Map base folder nulls)) none = graph_some files graph.Map base folder nulls none
 words_some files (Some (MapKeys base folder nulls)) none = graph_some files graph.MapKeys base folder nulls none
+words_some files (Some (Clean folder out nulls)) none = clean_some files folder out nulls none
 words_some files (Some (Show name)) none = show_some files name none
 words_some files (Some (Consistent name)) none = consistent_some files name none
 words_some files (Some (Check folder nulls)) none =

@@ -1,5 +1,5 @@
 -- What the program promises of its commands, for files that are well-formed.
-use Rattle.std.specs.Prelude.{◌≡◌, ◌⊎◌, ℕ, ◌≤◌, List, [], ◌∷◌, length, Some, IsTrue, encode_utf8_all}
+use Rattle.std.specs.Prelude.{◌≡◌, ◌⊎◌, ℕ, ◌≤◌, List, [], ◌∷◌, length, map, Some, IsTrue, encode_utf8_all}
 use Rattle.std.specs.Io.KnownBytes.{Appends}
 use Rattle.std.specs.FinMap.{get}
 use Rattle.std.specs.List.{flat_map}
@@ -10,12 +10,17 @@ use Rattle.names_dm.specs.Statements.{Statement}
 use Rattle.schema_dm.specs.declared.table.Table.{Table}
 use Rattle.outside_dm.specs.Shelves.{Files, ShelfState, longest}
 use Rattle.outside_dm.specs.Sinks.{SinkState}
+use Rattle.outside_dm.specs.Storing.{Batch}
 use Rattle.ddl_dm.specs.Schema.{IsDdl}
 use Rattle.table_csv.specs.Cells.{Row}
 use Rattle.table_csv.specs.Databases.{Data}
 use Rattle.table_csv.specs.TableFiles.{IsTableFile}
 use Rattle.keys_dm.specs.Violations.{KeepsKeys, ViolatesAt}
 use Rattle.keys_dm.specs.declared.violation.Violation.{Violation}
+use Rattle.clean_dm.specs.Kept.{AreRowsOfPart, with_rows}
+use Rattle.clean_dm.specs.Parts.{IsLargestPart}
+use Rattle.clean_dm.specs.Removing.{IsCleaning, IsLeft}
+use Rattle.clean_dm.specs.declared.removal.Removal.{Removal}
 use Rattle.ntriples_dm.specs.Written.{triple_text}
 use Rattle.ntriples_reader_dm.specs.Document.{IsDocument, limit}
 use Rattle.consistency_dm.specs.Conflicts.{IsVerdict}
@@ -26,11 +31,13 @@ use Rattle.graphs_dm.specs.declared.graph_name.GraphName.{GraphName}
 use Rattle.graphs_dm.specs.declared.graph_name.GraphName.TheVariants as graph
 use Rattle.cmd_dm.specs.Check.{check_text}
 use Rattle.cmd_dm.specs.Consistent.{verdict_text}
-use Rattle.cmd_dm.specs.Ending.{NoFault}
-use Rattle.cmd_dm.specs.Folder.{schema_file, table_file}
+use Rattle.cmd_dm.specs.Ending.{NoFault, Wrote}
+use Rattle.cmd_dm.specs.Folder.{schema_file, table_file, AreFilesOf, shape_of}
+use Rattle.cmd_dm.specs.Clean.{clean_work}
 use Rattle.cmd_dm.specs.Reasons.{key_reason}
+use Rattle.cmd_dm.specs.Script.{Work}
 use Rattle.cmd_dm.specs.declared.command.Command.{Command}
-use Rattle.cmd_dm.specs.declared.command.Command.TheVariants.{Direct, Map, MapKeys, Check, Show, Consistent}
+use Rattle.cmd_dm.specs.declared.command.Command.TheVariants.{Direct, Map, MapKeys, Check, Show, Consistent, Clean}
 use Rattle.cmd_dm.specs.declared.status.Status.{Status}
 use Rattle.cmd_dm.specs.declared.status.Status.TheVariants.{Ok as Done, Refused, Memory}
 
@@ -94,6 +101,24 @@ abbrev pub Checks : Data → ShelfState → ShelfState → SinkState → SinkSta
 Checks D old new before after status =
     WritesText (λ text. (found : List Violation) × IsListing (ViolatesAt D) found × (text ≡ check_text D.tables found)) old new before after status
 
+-- what `clean` writes of a database with this schema file: the removals in their order; the files of the rows that they leave, which
+-- are the largest part of the database that keeps its keys, and keep them; and the lines
+pub record IsCleanWork (out schema : List ℕ) (D : Data) (work : Work) : Type 0 where
+  pub removals : List Removal
+  pub rows : List (List Row)
+  pub files : Batch
+  pub cleaning : IsCleaning D removals
+  pub left : AreRowsOfPart D (IsLeft removals) rows
+  pub largest : IsLargestPart D (IsLeft removals)
+  pub kept : KeepsKeys (with_rows D rows)
+  pub tables : AreFilesOf out (map shape_of D.tables) rows files
+  pub is : work ≡ clean_work out (record { schema = schema; database = D }) removals files
+
+-- `clean`: without a fault the run ends well or for want of memory; and where it ends well, all of that was stored and put
+pub record Cleans (out schema : List ℕ) (D : Data) (old new : ShelfState) (before after : SinkState) (status : Status) : Type 0 where
+  pub no_fault : EndsSo Done old new before after status
+  pub written : status ≡ Done → (work : Work) × (IsCleanWork out schema D work × Wrote work old new before after)
+
 -- `show`: the lines of the triples in their written form, in their order, are written
 abbrev pub Shows : List Statement → ShelfState → ShelfState → SinkState → SinkState → Status → Type 0
 Shows triples old new before after status = WritesText (λ text. text ≡ flat_map triple_text triples) old new before after status
@@ -110,6 +135,8 @@ Promises (Map base folder nulls) old new before after status = WritesFolder grap
 Promises (MapKeys base folder nulls) old new before after status = WritesFolder graph.MapKeys base folder nulls old new before after status
 Promises (Check folder nulls) old new before after status =
     (files : Files) (D : Data) → old.files ≡ Some files → HoldsDatabase files folder nulls D → Checks D old new before after status
+Promises (Clean folder out nulls) old new before after status =
+    (files : Files) (D : Data) → old.files ≡ Some files → (held : HoldsDatabase files folder nulls D) → Cleans out held.bytes D old new before after status
 Promises (Show name) old new before after status =
     (files : Files) (bytes : List ℕ) (triples : List Statement) → old.files ≡ Some files → HoldsFile files (encode_utf8_all name) bytes → IsDocument bytes triples → length triples ≤ limit
     → Shows triples old new before after status

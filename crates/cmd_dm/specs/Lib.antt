@@ -10,6 +10,7 @@ pub mod Steps
 pub mod Folder
 pub mod GraphScript
 pub mod Check
+pub mod Clean
 pub mod Show
 pub mod Consistent
 pub mod Plans

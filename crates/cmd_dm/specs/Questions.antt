@@ -22,6 +22,12 @@ use Rattle.keys_dm.specs.Violations.{ViolatesAt}
 use Rattle.keys_dm.specs.declared.violation.Violation.{Violation}
 use Rattle.graphs_dm.specs.Graphs.{IsGraphText}
 use Rattle.graphs_dm.specs.declared.graph_name.GraphName.{GraphName}
+use Rattle.outside_dm.specs.Storing.{Batch}
+use Rattle.schema_dm.specs.declared.table.ShapeTable.{ShapeTable}
+use Rattle.clean_dm.specs.Kept.{AreRowsOfPart}
+use Rattle.clean_dm.specs.Removing.{IsCleaning, IsLeft}
+use Rattle.clean_dm.specs.declared.removal.Removal.{Removal}
+use Rattle.cmd_dm.specs.Folder.{AreFilesOf}
 use Rattle.cmd_dm.specs.Reasons.{ddl_status, graph_status, table_status}
 use Rattle.cmd_dm.specs.declared.status.Reason.{Reason}
 use Rattle.cmd_dm.specs.declared.status.Status.TheVariants.{Refused}
@@ -39,6 +45,12 @@ pub data Question : Type 0 where
   verdict_of : List Statement → Question
   -- the text of the graph of this name
   graph_of : GraphName → List ℕ → Data → Question
+  -- the removals by which the database is cleaned
+  removals_of : Data → Question
+  -- the rows that the removals leave, of each table
+  left_of : Data → List Removal → Question
+  -- the files of the tables with these rows in the folder
+  files_of : List ℕ → List ShapeTable → List (List Row) → Question
 
 -- what an answer to the question is: a value, or why the bytes are refused
 abbrev pub AnswerTo : Question → Type 0
@@ -48,6 +60,9 @@ AnswerTo (violations_of D) = List Violation
 AnswerTo (triples_of bytes) = Result (List Statement) Reason
 AnswerTo (verdict_of triples) = Verdict
 AnswerTo (graph_of name base D) = List ℕ
+AnswerTo (removals_of D) = List Removal
+AnswerTo (left_of D removals) = List (List Row)
+AnswerTo (files_of folder tables rows) = Batch
 
 abbrev pub IsSchemaAnswer : List ℕ → Result (List Table) Reason → Type 0
 IsSchemaAnswer bytes (Ok tables) = IsDdl bytes tables
@@ -70,3 +85,6 @@ Answers (violations_of D) found = IsListing (ViolatesAt D) found
 Answers (triples_of bytes) answer = IsTriplesAnswer bytes answer
 Answers (verdict_of triples) verdict = IsVerdict triples verdict
 Answers (graph_of name base D) text = IsGraphText name base D text
+Answers (removals_of D) removals = IsCleaning D removals
+Answers (left_of D removals) rows = AreRowsOfPart D (IsLeft removals) rows
+Answers (files_of folder tables rows) files = AreFilesOf folder tables rows files

@@ -15,6 +15,7 @@ use Rattle.cmd_dm.specs.Questions.{schema_of, rows_of, triples_of, violations_of
 use Rattle.cmd_dm.specs.Reasons.{bad_base, key_reason}
 use Rattle.cmd_dm.specs.Script.{Script, load, ask, refuse}
 use Rattle.cmd_dm.specs.declared.status.File.TheVariants as file
+use Rattle.cmd_dm.specs.declared.steps.LoadedFolder.{LoadedFolder}
 use Rattle.cmd_dm.specs.declared.status.Reason.{Reason}
 
 -- goes on with the value, or refuses
@@ -42,11 +43,15 @@ tables_step folder mode before (table ∷ tables) next =
     rows_step table.columns mode (before + 1) bytes (λ rows.
     tables_step folder mode (before + 1) tables (λ others. next (rows ∷ others))))
 
--- the database in the folder: its schema, and then its tables
-unfoldable pub database_step : List ℕ → NullMode → (Data → Script) → Script
-database_step folder mode next =
+-- the folder with a database: the bytes of its schema, which are read, and then its tables
+unfoldable pub folder_step : List ℕ → NullMode → (LoadedFolder → Script) → Script
+folder_step folder mode next =
     load file.Schema (schema_file folder) (λ bytes. schema_step bytes (λ tables.
-    tables_step folder mode 0 tables (λ rows. next (record { tables = tables; rows = rows }))))
+    tables_step folder mode 0 tables (λ rows. next (record { schema = bytes; database = record { tables = tables; rows = rows } }))))
+
+-- the database in the folder
+unfoldable pub database_step : List ℕ → NullMode → (Data → Script) → Script
+database_step folder mode next = folder_step folder mode (λ loaded. next loaded.database)
 
 -- the triples of the bytes
 unfoldable pub triples_step : List ℕ → (List Statement → Script) → Script

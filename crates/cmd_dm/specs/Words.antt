@@ -7,7 +7,7 @@ use Rattle.value_dm.specs.declared.mode.NullMode.TheVariants.{Plain, EmptyNull}
 use Rattle.graphs_dm.specs.declared.graph_name.GraphName.{GraphName}
 use Rattle.graphs_dm.specs.declared.graph_name.GraphName.TheVariants as graph
 use Rattle.cmd_dm.specs.declared.command.Command.{Command}
-use Rattle.cmd_dm.specs.declared.command.Command.TheVariants.{Direct, Map, MapKeys, Check, Show, Consistent}
+use Rattle.cmd_dm.specs.declared.command.Command.TheVariants.{Direct, Map, MapKeys, Check, Show, Consistent, Clean}
 
 -- [empty-null]
 abbrev pub nulls_of : List (List ℕ) → Option NullMode
@@ -31,6 +31,11 @@ abbrev pub check_of : List (List ℕ) → Option Command
 check_of (folder ∷ last) = option_map (λ nulls. Check (chars folder) nulls) (nulls_of last)
 check_of words = None
 
+-- FOLDER OUT [empty-null]
+abbrev pub clean_of : List (List ℕ) → Option Command
+clean_of (folder ∷ out ∷ last) = option_map (λ nulls. Clean (chars folder) (chars out) nulls) (nulls_of last)
+clean_of words = None
+
 -- GRAPH
 abbrev pub show_of : List (List ℕ) → Option Command
 show_of (name ∷ []) = Some (Show (chars name))
@@ -49,5 +54,6 @@ command_of (name ∷ words) =
     if bytes_eq name (codes "map") then graph_words graph.Map words else
     if bytes_eq name (codes "map-keys") then graph_words graph.MapKeys words else
     if bytes_eq name (codes "check") then check_of words else
+    if bytes_eq name (codes "clean") then clean_of words else
     if bytes_eq name (codes "show") then show_of words else
     if bytes_eq name (codes "consistent") then consistent_of words else None

@@ -44,7 +44,7 @@ fn push_kind(text: &mut String, kind: &ViolationKind) -> Result<(), AllocError>
 
 /// Appends the line of a violation.
 #[tactic(auto, unfolding(crate::specs::Check::violation_line))]
-fn push_line(
+pub(crate) fn push_line(
     alloc: Global,
     text: &mut String,
     tables: &[Table],

@@ -47,6 +47,20 @@ pub enum Command {
         /// `EmptyNull` where the word `empty-null` is given.
         nulls: NullMode,
     },
+
+    /// Stores the largest part of the database in a folder that keeps its keys, and writes a line for each row removed, and
+    /// their count.
+    Clean {
+        /// The folder with `schema.sql` and one CSV file a table.
+        folder: Text,
+
+        /// The folder in which the files are stored.
+        out: Text,
+
+        /// `EmptyNull` where the word `empty-null` is given.
+        nulls: NullMode,
+    },
+
     /// Writes each triple of a file of N-Triples in its written form.
     Show {
         /// The name of the file.

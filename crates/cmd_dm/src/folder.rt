@@ -12,7 +12,7 @@ use std::alloc::{AllocError, Global};
 use value_dm::{Bytes, Text};
 
 /// The name of a folder's schema file.
-fn schema_file(alloc: Global, folder: &Text) -> Result<String, AllocError>
+pub(crate) fn schema_file(alloc: Global, folder: &Text) -> Result<String, AllocError>
     ensures { IfOk result (λ name. string_bytes name ≡ schema_file folder.now) }
 {
     let mut name = String::from_str(alloc, folder.as_str())?;
@@ -21,7 +21,7 @@ fn schema_file(alloc: Global, folder: &Text) -> Result<String, AllocError>
 }
 
 /// The name of a table's file in a folder.
-fn table_file(alloc: Global, folder: &Text, table: &Text) -> Result<String, AllocError>
+pub(crate) fn table_file(alloc: Global, folder: &Text, table: &Text) -> Result<String, AllocError>
     ensures { IfOk result (λ name. string_bytes name ≡ table_file folder.now table.now) }
 {
     let safe_name = safe(alloc, table.as_str())?;

@@ -3,6 +3,7 @@
 
 mod causes;
 mod check;
+mod clean;
 mod command;
 mod consistent;
 mod fault_line;
@@ -12,6 +13,7 @@ mod reasons;
 mod show;
 mod status;
 mod steps;
+mod storing;
 mod top;
 mod words;
 

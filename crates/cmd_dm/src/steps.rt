@@ -9,7 +9,7 @@ ghost use Rattle.keys_dm.specs.Violations.{KeepsKeys};
 ghost use Rattle.graphs_dm.specs.Graphs.{IsDefined};
 ghost use Rattle.cmd_dm.specs.Ending.{Step, PureStep};
 ghost use Rattle.cmd_dm.specs.Script.{load};
-ghost use Rattle.cmd_dm.specs.Steps.{base_step, database_step, graph_step, kept_step, keys_step, rows_step, schema_step, tables_step, triples_step};
+ghost use Rattle.cmd_dm.specs.Steps.{base_step, database_step, folder_step, graph_step, kept_step, keys_step, rows_step, schema_step, tables_step, triples_step};
 
 use crate::folder::{load_schema, load_table};
 use crate::reasons::{ddl_status, graph_status, key_status, table_status};
@@ -109,6 +109,38 @@ fn read_tables<S: Shelf>(
     Ok(list)
 }
 
+/// A folder that was loaded.
+#[derive(Drop)]
+pub(crate) struct LoadedFolder {
+    /// The bytes of its schema file.
+    pub(crate) schema: Bytes,
+
+    /// Its database.
+    pub(crate) database: Database,
+}
+
+/// Loads and reads a folder as the next steps.
+#[tactic(auto, unfolding(crate::specs::Steps::folder_step))]
+pub(crate) fn read_folder<S: Shelf>(
+    alloc: Global,
+    folder: &Text,
+    nulls: NullMode,
+    shelf: &mut S,
+) -> Result<LoadedFolder, Status>
+    ensures { Step (folder_step folder.now nulls) (S.state shelf.old) (S.state shelf.new) result }
+{
+    let bytes = load_schema(alloc, folder, shelf)?;
+    let schema = read_schema(alloc, &bytes)?;
+    let rows = read_tables(alloc, folder, nulls, schema.tables(), shelf)?;
+    match Database::new(schema, rows) {
+        Some(database) => Ok(LoadedFolder {
+            schema: bytes,
+            database,
+        }),
+        None => unreachable!(),
+    }
+}
+
 /// Loads and reads a folder's database as the next steps.
 #[tactic(auto, unfolding(crate::specs::Steps::database_step))]
 pub(crate) fn read_database<S: Shelf>(
@@ -119,13 +151,11 @@ pub(crate) fn read_database<S: Shelf>(
 ) -> Result<Database, Status>
     ensures { Step (database_step folder.now nulls) (S.state shelf.old) (S.state shelf.new) result }
 {
-    let bytes = load_schema(alloc, folder, shelf)?;
-    let schema = read_schema(alloc, &bytes)?;
-    let rows = read_tables(alloc, folder, nulls, schema.tables(), shelf)?;
-    match Database::new(schema, rows) {
-        Some(database) => Ok(database),
-        None => unreachable!(),
-    }
+    let LoadedFolder {
+        schema: _schema,
+        database,
+    } = read_folder(alloc, folder, nulls, shelf)?;
+    Ok(database)
 }
 
 /// Reads the triples of a document as the next step.

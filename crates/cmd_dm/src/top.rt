@@ -9,6 +9,7 @@ ghost use Rattle.cmd_dm.specs.Words.{command_of};
 ghost use Rattle.cmd_dm.specs.declared.status.File.{File};
 
 use crate::check::run_check;
+use crate::clean::run_clean;
 use crate::command::Command;
 use crate::consistent::run_consistent;
 use crate::fault_line::tell;
@@ -47,6 +48,11 @@ fn run_command<S: Shelf, K: Sink>(
             nulls,
         } => run_graph(alloc, GraphName::MapKeys, base, folder, *nulls, shelf, out),
         Command::Check { folder, nulls } => run_check(alloc, folder, *nulls, shelf, out),
+        Command::Clean {
+            folder,
+            out: stored,
+            nulls,
+        } => run_clean(alloc, folder, stored, *nulls, shelf, out),
         Command::Show { graph } => run_show(alloc, graph, shelf, out),
         Command::Consistent { graph } => run_consistent(alloc, graph, shelf, out),
     }

@@ -1,5 +1,5 @@
 ghost use Rattle.std.specs.Prelude.{◌≡◌, ◌↔◌, Some, None, IfOk, IfErr, IsErrOf, chars, map, string_bytes};
-ghost use Rattle.cmd_dm.specs.Words.{check_of, command_of, consistent_of, graph_command, graph_words, nulls_of, show_of};
+ghost use Rattle.cmd_dm.specs.Words.{check_of, command_of, consistent_of, graph_command, graph_words, nulls_of, show_of, clean_of};
 ghost use Rattle.cmd_dm.specs.declared.words.WordError.TheVariants.{Memory, Usage};
 
 use crate::command::Command;
@@ -111,6 +111,22 @@ fn read_check(alloc: Global, words: &[String]) -> Result<Command, WordError>
     }
 }
 
+/// The words behind `clean`.
+fn read_clean(alloc: Global, words: &[String]) -> Result<Command, WordError>
+    ensures ok { IfOk result (λ command. clean_of (map string_bytes words.now) ≡ Some command) }
+    ensures usage { IsErrOf result WordError.Usage ↔ (clean_of (map string_bytes words.now) ≡ None) }
+{
+    match words {
+        [folder, out, last @ ..] => {
+            let nulls = read_nulls(last)?;
+            let folder = text_of(alloc, folder)?;
+            let out = text_of(alloc, out)?;
+            Ok(Command::Clean { folder, out, nulls })
+        }
+        _ => Err(WordError::Usage),
+    }
+}
+
 /// The words behind `show`.
 fn read_show(alloc: Global, words: &[String]) -> Result<Command, WordError>
     ensures ok { IfOk result (λ command. show_of (map string_bytes words.now) ≡ Some command) }
@@ -154,6 +170,8 @@ pub fn read_words(alloc: Global, words: &[String]) -> Result<Command, WordError>
                 read_graph_words(alloc, GraphName::MapKeys, rest)
             } else if name.as_str() == "check" {
                 read_check(alloc, rest)
+            } else if name.as_str() == "clean" {
+                read_clean(alloc, rest)
             } else if name.as_str() == "show" {
                 read_show(alloc, rest)
             } else if name.as_str() == "consistent" {

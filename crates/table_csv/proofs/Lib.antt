@@ -11,3 +11,4 @@ pub mod OneFault
 pub mod FittingRows
 pub mod Databases
 pub mod SomeAnswer
+pub mod OneText
