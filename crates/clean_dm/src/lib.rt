@@ -13,3 +13,5 @@ pub use cleaning::clean;
 pub use keeping::kept;
 pub use removal::{Removal, Removals};
 
+#[cfg(test)]
+mod tests;

@@ -2,6 +2,8 @@
 #![tactic(auto)]
 
 mod lexer;
+#[cfg(test)]
+mod tests;
 mod text;
 mod token;
 

@@ -3,7 +3,6 @@
 
 mod graph_name;
 mod heads;
-mod interpreted;
 mod nodes;
 mod ontology;
 mod plan;
@@ -17,3 +16,5 @@ pub use writer::{
     write_direct, write_direct_by, write_map, write_map_by, write_map_keys, write_map_keys_by,
 };
 
+#[cfg(test)]
+mod tests;

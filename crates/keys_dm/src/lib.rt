@@ -17,3 +17,5 @@ pub use index::{Entry, KeyIndex};
 pub use table_indexes::{KeyIndexes, rows_of, table_of};
 pub use violation::{Violation, ViolationKind, ViolationList};
 
+#[cfg(test)]
+mod tests;

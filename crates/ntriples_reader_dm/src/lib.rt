@@ -16,3 +16,5 @@ pub use lawful::lawful_triple;
 pub use laws::{one_meaning, written_text};
 pub use lines::read_graph;
 
+#[cfg(test)]
+mod tests;

@@ -50,3 +50,5 @@ pub type ForeignKeys = Sequence<ForeignKey>;
 /// Tables without keys.
 pub type ShapeTables = Sequence<ShapeTable>;
 
+#[cfg(test)]
+mod tests;

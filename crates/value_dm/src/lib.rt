@@ -42,3 +42,5 @@ pub use writing::field_text;
 /// Texts in order.
 pub type Names = Sequence<Text>;
 
+#[cfg(test)]
+mod tests;
