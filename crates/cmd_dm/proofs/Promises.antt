@@ -28,6 +28,8 @@ use Rattle.consistency_dm.specs.declared.verdict.Verdict.{Verdict}
 use Rattle.clean_dm.specs.Removing.{IsLeft}
 use Rattle.clean_dm.proofs.KeptRows.{kept_keeps}
 use Rattle.clean_dm.proofs.OneCleaning.{cleaning_is_largest}
+use Rattle.consistency_dm.specs.declared.verdict.Verdict.TheVariants.{Yes}
+use Rattle.consistency_dm.proofs.FirstConflicts.{one_verdict}
 use Rattle.keys_dm.specs.Violations.{ViolatesAt}
 use Rattle.keys_dm.specs.declared.violation.Violation.{Violation}
 use Rattle.keys_dm.proofs.DatabaseLevels.{none_listed}
@@ -41,7 +43,7 @@ use Rattle.cmd_dm.specs.Show.{show_script}
 use Rattle.cmd_dm.specs.GraphScript.{graph_script}
 use Rattle.cmd_dm.specs.Ending.{Ends, NoFault, Target, to_output, to_both}
 use Rattle.cmd_dm.specs.Folder.{schema_file, table_file, shape_of}
-use Rattle.cmd_dm.specs.Headline.{HoldsFile, HoldsTables, HoldsDatabase, EndsSo, WritesText, WritesKept, WritesFolder, Checks, Shows, Judges, Promises, Cleans, IsCleanWork}
+use Rattle.cmd_dm.specs.Headline.{HoldsFile, HoldsTables, HoldsDatabase, EndsSo, WritesText, WritesKept, WritesFolder, Checks, Shows, Judges, Promises, Cleans, IsCleanWork, TellsKeys}
 use Rattle.cmd_dm.specs.Plans.{IsOutcome, NamesFile, folder_file, graph_file, plan_of}
 use Rattle.cmd_dm.specs.Questions.{violations_of, verdict_of, graph_of, removals_of, left_of, files_of}
 use Rattle.cmd_dm.specs.Clean.{clean_script, clean_work}
@@ -408,6 +410,13 @@ judges document files bytes triples status ends told held is few =
     let found = on_known files asked.0 triples judged outcome right asked.1.1 in
     (verdict_text found.0, ((found.0, found.1.0, refl), found.1.1)))
 
+tells_keys : (triples : List Statement) → TellsKeys triples
+tells_keys triples base D verdict good database are is =
+    let exactly = (interpreted_below base good D database).interpreted triples are in (
+      (λ yes_is. exactly.0 (subst (IsVerdict triples) yes_is is)),
+      (λ kept. one_verdict triples verdict Yes is (exactly.1 kept)),
+    )
+
 -- each command keeps its promise
 pub promised : (command : Command) {s t : ShelfState} {o p : SinkState} (status : Status) → Ends (plan_of command).target (plan_of command).script s t o p status → Promises command s t o p status
 promised (Direct base folder nulls) status ends = writes_graph graph.Direct base folder nulls status ends
@@ -416,4 +425,5 @@ promised (MapKeys base folder nulls) status ends = writes_graph graph.MapKeys ba
 promised (Show document) status ends = λ files bytes triples told held is few. shows document files bytes triples status ends told held is few
 promised (Consistent document) status ends = λ files bytes triples told held is few. judges document files bytes triples status ends told held is few
 promised (Clean folder out nulls) status ends = λ files D told held. cleans folder out nulls files D status ends told held
+promised (Consistent document) status ends = λ files bytes triples told held is few. (judges document files bytes triples status ends told held is few, tells_keys triples)
 promised (Check folder nulls) status ends = λ files D told held. checks folder nulls files D status ends told held

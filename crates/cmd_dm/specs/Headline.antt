@@ -1,5 +1,5 @@
 -- What the program promises of its commands, for files that are well-formed.
-use Rattle.std.specs.Prelude.{◌≡◌, ◌⊎◌, ℕ, ◌≤◌, List, [], ◌∷◌, length, map, Some, IsTrue, encode_utf8_all}
+use Rattle.std.specs.Prelude.{◌≡◌, ◌⊎◌, ℕ, ◌≤◌, List, [], ◌∷◌, length, map, Some, IsTrue, encode_utf8_all, ◌↔◌}
 use Rattle.std.specs.Io.KnownBytes.{Appends}
 use Rattle.std.specs.FinMap.{get}
 use Rattle.std.specs.List.{flat_map}
@@ -13,7 +13,7 @@ use Rattle.outside_dm.specs.Sinks.{SinkState}
 use Rattle.outside_dm.specs.Storing.{Batch}
 use Rattle.ddl_dm.specs.Schema.{IsDdl}
 use Rattle.table_csv.specs.Cells.{Row}
-use Rattle.table_csv.specs.Databases.{Data}
+use Rattle.table_csv.specs.Databases.{Data, IsDatabase}
 use Rattle.table_csv.specs.TableFiles.{IsTableFile}
 use Rattle.keys_dm.specs.Violations.{KeepsKeys, ViolatesAt}
 use Rattle.keys_dm.specs.declared.violation.Violation.{Violation}
@@ -25,7 +25,8 @@ use Rattle.ntriples_dm.specs.Written.{triple_text}
 use Rattle.ntriples_reader_dm.specs.Document.{IsDocument, limit}
 use Rattle.consistency_dm.specs.Conflicts.{IsVerdict}
 use Rattle.consistency_dm.specs.declared.verdict.Verdict.{Verdict}
-use Rattle.graphs_dm.specs.Graphs.{IsGraphText}
+use Rattle.consistency_dm.specs.declared.verdict.Verdict.TheVariants.{Yes}
+use Rattle.graphs_dm.specs.Graphs.{AreTriplesOf, IsGraphText}
 use Rattle.graphs_dm.specs.Interpreted.{IsInterpretedWhereKept}
 use Rattle.graphs_dm.specs.declared.graph_name.GraphName.{GraphName}
 use Rattle.graphs_dm.specs.declared.graph_name.GraphName.TheVariants as graph
@@ -128,6 +129,12 @@ abbrev pub Judges : List Statement → ShelfState → ShelfState → SinkState �
 Judges triples old new before after status =
     WritesText (λ text. (verdict : Verdict) × IsVerdict triples verdict × (text ≡ verdict_text verdict)) old new before after status
 
+-- of triples that are exactly the map-keys graph's of a database, in whatever order, the right verdict is `Yes` exactly where no
+-- key is violated
+abbrev pub TellsKeys : List Statement → Type 0
+TellsKeys triples = (base : List ℕ) (D : Data) (verdict : Verdict) → IsTrue (is_base base) → IsDatabase D → AreTriplesOf graph.MapKeys base D triples → IsVerdict triples verdict
+    → (verdict ≡ Yes) ↔ KeepsKeys D
+
 -- what each command promises where the shelf tells its files and they are well-formed
 abbrev pub Promises : Command → ShelfState → ShelfState → SinkState → SinkState → Status → Type 0
 Promises (Direct base folder nulls) old new before after status = WritesFolder graph.Direct base folder nulls old new before after status
@@ -142,4 +149,4 @@ Promises (Show name) old new before after status =
     → Shows triples old new before after status
 Promises (Consistent name) old new before after status =
     (files : Files) (bytes : List ℕ) (triples : List Statement) → old.files ≡ Some files → HoldsFile files (encode_utf8_all name) bytes → IsDocument bytes triples → length triples ≤ limit
-    → Judges triples old new before after status
+    → Judges triples old new before after status × TellsKeys triples
