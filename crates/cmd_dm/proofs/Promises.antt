@@ -423,7 +423,6 @@ promised (Direct base folder nulls) status ends = writes_graph graph.Direct base
 promised (Map base folder nulls) status ends = writes_graph graph.Map base folder nulls status ends
 promised (MapKeys base folder nulls) status ends = writes_graph graph.MapKeys base folder nulls status ends
 promised (Show document) status ends = λ files bytes triples told held is few. shows document files bytes triples status ends told held is few
-promised (Consistent document) status ends = λ files bytes triples told held is few. judges document files bytes triples status ends told held is few
 promised (Clean folder out nulls) status ends = λ files D told held. cleans folder out nulls files D status ends told held
 promised (Consistent document) status ends = λ files bytes triples told held is few. (judges document files bytes triples status ends told held is few, tells_keys triples)
 promised (Check folder nulls) status ends = λ files D told held. checks folder nulls files D status ends told held
