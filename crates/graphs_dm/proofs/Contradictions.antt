@@ -1,6 +1,6 @@
 -- The map-keys graph contradicts itself exactly where a key is violated.
-use Rattle.std.proofs.Common.{◌≡◌, ◌≢◌, ◌∙◌, ◌<◌, ◌++◌, ◌||◌, ◌&&◌, ℕ, Bool, true, false, not, List, [], ◌∷◌, None, Some, refl, sym, ap, subst, inl, inr, map, length, eqb, arith, get_or}
-use Rattle.std.specs.Prelude.{◌↔◌, codes, nat_eq, slice_get}
+use Rattle.std.proofs.Common.{◌≡◌, ◌∙◌, ◌<◌, ◌++◌, ◌||◌, ◌&&◌, ℕ, Bool, true, false, not, List, [], ◌∷◌, None, refl, sym, ap, subst, inl, inr, map, length, eqb, arith, get_or}
+use Rattle.std.specs.Prelude.{codes, nat_eq}
 use Rattle.std.specs.List.{list_any, starts_with}
 use Rattle.std.proofs.lemmas.Bool.{cases_Bool, eqb-true}
 use Rattle.std.proofs.lemmas.List.{get_or-map}
@@ -10,10 +10,9 @@ use Rattle.value_dm.specs.declared.kind.Kind.TheVariants as kind
 use Rattle.members_dm.specs.Membership.{IsIn}
 use Rattle.members_dm.proofs.AnyLemmas.{any_from_item}
 use Rattle.members_dm.proofs.ElementsLemmas.{item_at_index}
-use Rattle.schema_dm.specs.Naming.{Declares, name_at}
+use Rattle.schema_dm.specs.Naming.{name_at}
 use Rattle.schema_dm.specs.Schemas.{IsTable, table_at}
 use Rattle.schema_dm.specs.declared.draft.Column.{Column}
-use Rattle.schema_dm.specs.declared.table.ForeignKey.{ForeignKey}
 use Rattle.schema_dm.specs.declared.table.Table.{Table}
 use Rattle.names_dm.specs.Names.{column_iri, ref_iri, table_iri}
 use Rattle.names_dm.specs.Namespaces.{is_base, is_empty_text, namespaces, one_begins, rdf, rdfs, xsd}
@@ -26,7 +25,7 @@ use Rattle.names_dm.proofs.Ascii.{and_parts}
 use Rattle.names_dm.proofs.NamesApart.{names_apart}
 use Rattle.names_dm.proofs.Parts.{eqb-same}
 use Rattle.facts_dm.specs.Facts.{Fact, KindText, Link, Node, a_cell, a_class, a_domain, a_link, a_link_range, a_mark, a_node, a_property, a_range, an_object, blank, iri, link_iri, literal_term, node_term, ref_link, table_term, triple_of, word_term}
-use Rattle.facts_dm.specs.Meanings.{Meaning, NamingLaws, meaning, of_property, of_word}
+use Rattle.facts_dm.specs.Meanings.{NamingLaws, meaning, of_property, of_word}
 use Rattle.facts_dm.specs.Vocabulary.{word_iri}
 use Rattle.facts_dm.specs.declared.word.Word.{Word}
 use Rattle.facts_dm.specs.declared.word.Word.TheVariants.{Datatype, OwlDifferentFrom, RdfType, RdfsDomain, RdfsRange}
@@ -225,7 +224,7 @@ module _ (base : List ℕ) (ok : is_base base ≡ true) (laws : NamingLaws base)
         let g = are.only r j in
         let shut = refused triples x i (range_form r.object) none in
         let open_ = lets g.0 f.0 (says D database base g.1.0 g.0 g.1.1) (says D database base f.1.0 f.0 f.1.1) (ap (λ (z : Statement). z.predicate) (sym g.2) ∙ p)
-            (ap (λ (z : Statement). z.subject) (sym g.2) ∙ s ∙ ap (λ (z : Statement). term.Iri z.predicate) f.2) in
+        (ap (λ (z : Statement). z.subject) (sym g.2) ∙ s ∙ ap (λ (z : Statement). term.Iri z.predicate) f.2) in
         let both : true ≡ false = sym open_ ∙ ap (λ (z : Statement). form_lets (range_form z.object) (triple_of base f.0).object) (sym g.2) ∙ ap (λ (z : Statement). form_lets (range_form r.object) z.object) (sym f.2) ∙ shut in
         cc both
 

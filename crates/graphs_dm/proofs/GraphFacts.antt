@@ -8,12 +8,12 @@ use Rattle.value_dm.specs.declared.value.Value.{Value}
 use Rattle.members_dm.specs.Membership.{IsIn}
 use Rattle.members_dm.specs.Places.{Place}
 use Rattle.members_dm.proofs.ElementsLemmas.{item_at_index, item_within, one_by_key}
-use Rattle.schema_dm.specs.Schemas.{IsTable, no_table, table_at}
+use Rattle.schema_dm.specs.Schemas.{no_table, table_at}
 use Rattle.schema_dm.specs.declared.draft.Column.{Column}
 use Rattle.schema_dm.specs.declared.table.ForeignKey.{ForeignKey}
 use Rattle.schema_dm.specs.declared.table.Table.{Table}
 use Rattle.names_dm.specs.declared.names.ColumnName.{ColumnName}
-use Rattle.facts_dm.specs.Facts.{Fact, KindText, Link, a_cell, a_class, a_domain, a_link, a_link_range, a_mark, a_node, a_property, a_range, an_object}
+use Rattle.facts_dm.specs.Facts.{Fact, Link, a_cell, a_class, a_domain, a_link, a_link_range, a_mark, a_node, a_property, a_range, an_object}
 use Rattle.table_csv.specs.Cells.{Cell, IsCellOf}
 use Rattle.table_csv.specs.Databases.{Data, IsDatabase, rows_at}
 use Rattle.table_csv.proofs.Databases.{cell_fits, row_fits, rows_fit}
