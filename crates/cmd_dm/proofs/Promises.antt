@@ -1,6 +1,6 @@
 -- What follows of how a run ended for the words as a whole.
 use Rattle.std.proofs.Common.{◌≡◌, ◌∙◌, refl, sym, ap, subst, inl, inr, ◌⊎◌, ℕ, ◌+◌, ◌≤◌, List, [], ◌∷◌, length, Option, Some, None, Result, Ok, Err, true, false, Bool, cond, arith, zero, suc, ◌<◌}
-use Rattle.std.specs.Prelude.{IsTrue, IfSome, MatchBool, encode_utf8_all, map}
+use Rattle.std.specs.Prelude.{◌↔◌, IsTrue, IfSome, MatchBool, encode_utf8_all, map}
 use Rattle.std.specs.List.{AllZip, flat_map}
 use Rattle.std.specs.FinMap.{get}
 use Rattle.std.specs.Io.KnownBytes.{Appends}
@@ -9,7 +9,9 @@ use Rattle.members_dm.specs.Membership.{IsIn, NoRepeats}
 use Rattle.members_dm.specs.Places.{IsListing}
 use Rattle.members_dm.proofs.PlacesLemmas.{listing_unique}
 use Rattle.value_dm.specs.declared.mode.NullMode.{NullMode}
+use Rattle.value_dm.specs.Texts.{IsText}
 use Rattle.names_dm.specs.Namespaces.{is_base}
+use Rattle.names_dm.proofs.SafeForms.{is_iri-base}
 use Rattle.names_dm.specs.Statements.{Statement}
 use Rattle.ntriples_dm.specs.Written.{triple_text}
 use Rattle.ntriples_reader_dm.specs.Document.{IsDocument, limit}
@@ -30,10 +32,11 @@ use Rattle.clean_dm.proofs.KeptRows.{kept_keeps}
 use Rattle.clean_dm.proofs.OneCleaning.{cleaning_is_largest}
 use Rattle.consistency_dm.specs.declared.verdict.Verdict.TheVariants.{Yes}
 use Rattle.consistency_dm.proofs.FirstConflicts.{one_verdict}
-use Rattle.keys_dm.specs.Violations.{ViolatesAt}
+use Rattle.keys_dm.specs.Violations.{KeepsKeys, ViolatesAt}
 use Rattle.keys_dm.specs.declared.violation.Violation.{Violation}
 use Rattle.keys_dm.proofs.DatabaseLevels.{none_listed}
-use Rattle.graphs_dm.specs.Graphs.{IsGraphText}
+use Rattle.graphs_dm.specs.Graphs.{AreTriplesOf, IsGraphText}
+use Rattle.graph_texts_dm.proofs.Texts.{exactly}
 use Rattle.graphs_dm.proofs.Contradictions.{interpreted_below}
 use Rattle.graphs_dm.specs.declared.graph_name.GraphName.{GraphName}
 use Rattle.graphs_dm.specs.declared.graph_name.GraphName.TheVariants as graph
@@ -410,12 +413,20 @@ judges document files bytes triples status ends told held is few =
     let found = on_known files asked.0 triples judged outcome right asked.1.1 in
     (verdict_text found.0, ((found.0, found.1.0, refl), found.1.1)))
 
-tells_keys : (triples : List Statement) → TellsKeys triples
-tells_keys triples base D verdict good database are is =
-    let exactly = (interpreted_below base good D database).interpreted triples are in (
-      (λ yes_is. exactly.0 (subst (IsVerdict triples) yes_is is)),
-      (λ kept. one_verdict triples verdict Yes is (exactly.1 kept)),
-    )
+tells_keys : (bytes : List ℕ) (triples : List Statement) → IsDocument bytes triples → TellsKeys bytes triples
+tells_keys bytes triples document = record {
+  listed = told;
+  written = λ base D verdict good text database written is.
+      told base D verdict good database (exactly base (is_iri-base base good, text) D database graph.MapKeys bytes triples written document) is;
+}
+  where
+    told : (base : List ℕ) (D : Data) (verdict : Verdict) → IsTrue (is_base base) → IsDatabase D → AreTriplesOf graph.MapKeys base D triples
+        → IsVerdict triples verdict → (verdict ≡ Yes) ↔ KeepsKeys D
+    told base D verdict good database are is =
+      let interpreted = (interpreted_below base good D database).interpreted triples are in (
+        (λ yes_is. interpreted.0 (subst (IsVerdict triples) yes_is is)),
+        (λ kept. one_verdict triples verdict Yes is (interpreted.1 kept)),
+      )
 
 -- each command keeps its promise
 pub promised : (command : Command) {s t : ShelfState} {o p : SinkState} (status : Status) → Ends (plan_of command).target (plan_of command).script s t o p status → Promises command s t o p status
@@ -424,5 +435,5 @@ promised (Map base folder nulls) status ends = writes_graph graph.Map base folde
 promised (MapKeys base folder nulls) status ends = writes_graph graph.MapKeys base folder nulls status ends
 promised (Show document) status ends = λ files bytes triples told held is few. shows document files bytes triples status ends told held is few
 promised (Clean folder out nulls) status ends = λ files D told held. cleans folder out nulls files D status ends told held
-promised (Consistent document) status ends = λ files bytes triples told held is few. (judges document files bytes triples status ends told held is few, tells_keys triples)
+promised (Consistent document) status ends = λ files bytes triples told held is few. (judges document files bytes triples status ends told held is few, tells_keys bytes triples is)
 promised (Check folder nulls) status ends = λ files D told held. checks folder nulls files D status ends told held

@@ -5,6 +5,7 @@ use Rattle.std.specs.FinMap.{get}
 use Rattle.std.specs.List.{flat_map}
 use Rattle.members_dm.specs.Places.{IsListing}
 use Rattle.value_dm.specs.declared.mode.NullMode.{NullMode}
+use Rattle.value_dm.specs.Texts.{IsText}
 use Rattle.names_dm.specs.Namespaces.{is_base}
 use Rattle.names_dm.specs.Statements.{Statement}
 use Rattle.schema_dm.specs.declared.table.Table.{Table}
@@ -130,10 +131,12 @@ Judges triples old new before after status =
     WritesText (λ text. (verdict : Verdict) × IsVerdict triples verdict × (text ≡ verdict_text verdict)) old new before after status
 
 -- of triples that are exactly the map-keys graph's of a database, in whatever order, the right verdict is `Yes` exactly where no
--- key is violated
-abbrev pub TellsKeys : List Statement → Type 0
-TellsKeys triples = (base : List ℕ) (D : Data) (verdict : Verdict) → IsTrue (is_base base) → IsDatabase D → AreTriplesOf graph.MapKeys base D triples → IsVerdict triples verdict
-    → (verdict ≡ Yes) ↔ KeepsKeys D
+-- key is violated; and so it is of a file with the text that `map-keys` writes
+pub record TellsKeys (bytes : List ℕ) (triples : List Statement) : Type 0 where
+  pub listed : (base : List ℕ) (D : Data) (verdict : Verdict) → IsTrue (is_base base) → IsDatabase D → AreTriplesOf graph.MapKeys base D triples
+      → IsVerdict triples verdict → (verdict ≡ Yes) ↔ KeepsKeys D
+  pub written : (base : List ℕ) (D : Data) (verdict : Verdict) → IsTrue (is_base base) → IsText base → IsDatabase D → IsGraphText graph.MapKeys base D bytes
+      → IsVerdict triples verdict → (verdict ≡ Yes) ↔ KeepsKeys D
 
 -- what each command promises where the shelf tells its files and they are well-formed
 abbrev pub Promises : Command → ShelfState → ShelfState → SinkState → SinkState → Status → Type 0
@@ -149,4 +152,4 @@ Promises (Show name) old new before after status =
     → Shows triples old new before after status
 Promises (Consistent name) old new before after status =
     (files : Files) (bytes : List ℕ) (triples : List Statement) → old.files ≡ Some files → HoldsFile files (encode_utf8_all name) bytes → IsDocument bytes triples → length triples ≤ limit
-    → Judges triples old new before after status × TellsKeys triples
+    → Judges triples old new before after status × TellsKeys bytes triples

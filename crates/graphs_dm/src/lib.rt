@@ -3,6 +3,7 @@
 
 mod graph_name;
 mod heads;
+mod interpreted;
 mod nodes;
 mod ontology;
 mod plan;
