@@ -1,10 +1,10 @@
 -- Rows of numbers and the mappings to terms that they stand for.
-use Rattle.std.proofs.Common.{◌≡◌, ◌≢◌, ◌<◌, ◌≤◌, ◌⊎◌, ◌↔◌, ℕ, zero, suc, List, [], ◌∷◌, Option, Some, None, length, slice_get, refl, sym, ap, ◌∙◌, subst, arith, inl, inr, ⊎_elim, Bool, true, false, cond}
+use Rattle.std.proofs.Common.{◌≡◌, ◌≢◌, ◌<◌, ◌≤◌, ℕ, zero, suc, List, [], ◌∷◌, Option, Some, None, length, slice_get, refl, sym, ap, ◌∙◌, subst, arith, Bool, true, false, cond}
 use Rattle.std.proofs.Math.Path.{fun_ext}
 use Rattle.std.specs.Str.{bytes_eq}
 use Rattle.names_dm.specs.declared.term.Term.{Term}
 use Rattle.solutions_dm.specs.declared.selects.Rename.{Rename}
-use Rattle.solutions_dm.specs.Columns.{number_at, SameIfBound}
+use Rattle.solutions_dm.specs.Columns.{SameIfBound}
 use Rattle.solutions_dm.specs.Merge.{first_bound}
 use Rattle.solutions_dm.specs.Selects.{selected}
 use Rattle.solutions_dm.specs.Table.{Table, HasRow}

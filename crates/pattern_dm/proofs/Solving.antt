@@ -1,8 +1,7 @@
 -- The operators on the solutions of the parts give those of the pattern.
-use Rattle.std.proofs.Common.{◌≡◌, ◌⊎◌, ◌↔◌, ℕ, List, None, true, refl, sym, ap, ◌∙◌, subst, arith, inl, inr, ⊎_elim}
+use Rattle.std.proofs.Common.{◌≡◌, ◌⊎◌, ◌↔◌, ℕ, List, None, true, refl, ap, ◌∙◌, arith, inl, inr, ⊎_elim}
 use denote.Hole.Carrier.{hidden}
 use Rattle.names_dm.specs.declared.term.Term.{Term}
-use Rattle.names_dm.specs.Statements.{Statement}
 use Rattle.solutions_dm.specs.declared.selects.Rename.{Rename}
 use Rattle.solutions_dm.specs.Columns.{number_at}
 use Rattle.solutions_dm.specs.Table.{Table, HasRow}
@@ -17,7 +16,7 @@ use Rattle.pattern_dm.specs.Operators.{Join, LeftJoin, Minus, Select}
 use Rattle.pattern_dm.specs.Says.{Says}
 use Rattle.pattern_dm.specs.Solution.{Solution}
 use Rattle.pattern_dm.specs.Solved.{AreNumbers, HasSolution, IsOutcome, IsSolved}
-use Rattle.pattern_dm.proofs.Bridge.{row_solution, none_is_zero}
+use Rattle.pattern_dm.proofs.Bridge.{row_solution}
 
 pub outcome_as : (terms : List Term) (P Q : Mapping → Type 0) (s : Table) → ((m : Mapping) → P m ↔ Q m) → IsOutcome terms P s → IsOutcome terms Q s
 outcome_as terms P Q s e h = record { exact = λ m. ((λ k. (e m).0 ((h.exact m).0 k)), (λ k. (h.exact m).1 ((e m).1 k))); once = h.once; numbers = h.numbers }
