@@ -57,6 +57,11 @@ module _ (terms : List Term) where
   one_number d (suc a) zero t e f = absurd (cc f)
   one_number d (suc a) (suc b) t e f = ap suc (d a b (within terms a t e) (e ∙ sym f))
 
+  pub same_number : AreOneToOne terms → (a b : ℕ) → a ≤ length terms → b ≤ length terms → term_at terms a ≡ term_at terms b → a ≡ b
+  same_number d zero zero l k e = refl
+  same_number d zero (suc b) l k e = let x = term_of_number (suc b) k (λ z. omega (arith, z)) in absurd (number_not_zero zero x.0 (e ∙ x.1) refl)
+  same_number d (suc a) b l k e = let x = term_of_number (suc a) l (λ z. omega (arith, z)) in one_number d (suc a) b x.0 x.1 (sym e ∙ x.1)
+
   pub to_terms : (a b : ℕ) → SameIfBound a b → SameIfBoth (term_at terms a) (term_at terms b)
   to_terms zero b h = tt
   to_terms (suc a) zero h = right_none (slice_get terms a)

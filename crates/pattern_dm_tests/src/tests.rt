@@ -74,9 +74,13 @@ fn one_rename(alloc: Global, from: Var, to: Var) -> Result<Renames, AllocError> 
     Ok(renames)
 }
 
+fn selected(alloc: Global, p: Pattern, renames: Renames) -> Result<Pattern, AllocError> {
+    Ok(Pattern::Select(Boxed::new(alloc, p)?, renames))
+}
+
 fn select(alloc: Global, p: Pattern, from: &str, to: &str) -> Result<Pattern, Fail> {
     let renames = one_rename(alloc, var(alloc, from)?, var(alloc, to)?)?;
-    Ok(Pattern::Select(Boxed::new(alloc, p)?, renames))
+    Ok(selected(alloc, p, renames)?)
 }
 
 fn push(triples: &mut Triples, triple: Triple) -> Result<(), AllocError> {
