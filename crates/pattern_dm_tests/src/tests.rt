@@ -37,7 +37,10 @@ fn operand(alloc: Global, letters: &str) -> Result<Operand, Fail> {
 }
 
 fn triple(alloc: Global, s: &str, p: &str, o: &str) -> Result<Pattern, Fail> {
-    Ok(Pattern::Triple(operand(alloc, s)?, operand(alloc, p)?, operand(alloc, o)?))
+    let s = operand(alloc, s)?;
+    let p = operand(alloc, p)?;
+    let o = operand(alloc, o)?;
+    Ok(Pattern::Triple(s, p, o))
 }
 
 fn same(alloc: Global, a: &str, b: &str) -> Result<Condition, Fail> {
@@ -78,9 +81,15 @@ fn selected(alloc: Global, p: Pattern, renames: Renames) -> Result<Pattern, Allo
     Ok(Pattern::Select(Boxed::new(alloc, p)?, renames))
 }
 
-fn select(alloc: Global, p: Pattern, from: &str, to: &str) -> Result<Pattern, Fail> {
-    let renames = one_rename(alloc, var(alloc, from)?, var(alloc, to)?)?;
-    Ok(selected(alloc, p, renames)?)
+fn renaming(alloc: Global, from: &str, to: &str) -> Result<Renames, Fail> {
+    let from = var(alloc, from)?;
+    let to = var(alloc, to)?;
+    Ok(one_rename(alloc, from, to)?)
+}
+
+fn select(alloc: Global, from: &str, to: &str) -> Result<Pattern, Fail> {
+    let renames = renaming(alloc, from, to)?;
+    Ok(selected(alloc, first(alloc)?, renames)?)
 }
 
 fn push(triples: &mut Triples, triple: Triple) -> Result<(), AllocError> {
@@ -124,7 +133,9 @@ fn third(alloc: Global) -> Result<Pattern, Fail> {
 }
 
 fn optional(alloc: Global) -> Result<Pattern, Fail> {
-    Ok(left_join(alloc, first(alloc)?, second(alloc)?, Condition::True)?)
+    let left = first(alloc)?;
+    let right = second(alloc)?;
+    Ok(left_join(alloc, left, right, Condition::True)?)
 }
 
 fn push_var(header: &mut Vars, name: Var) -> Result<(), AllocError> {
@@ -200,38 +211,71 @@ fn small_answers(alloc: Global, names: &[&str], pattern: &Pattern) -> Result<Str
     shown(alloc, names, &grid)
 }
 
-// The pattern of a row of the table below.
-fn pattern(alloc: Global, row: u8) -> Result<Pattern, Fail> {
-    match row {
-        1 => optional(alloc),
-        2 => Ok(less(alloc, first(alloc)?, second(alloc)?)?),
-        3 => Ok(less(alloc, first(alloc)?, Pattern::Empty)?),
-        4 => Ok(less(alloc, first(alloc)?, third(alloc)?)?),
-        5 => Ok(and(alloc, optional(alloc)?, third(alloc)?)?),
-        6 => not_same(alloc),
-        7 => unbound_or_same(alloc),
-        8 => {
-            let condition = same(alloc, "?v", "'y")?;
-            Ok(left_join(alloc, first(alloc)?, second(alloc)?, condition)?)
-        }
-        9 => select(alloc, first(alloc)?, "u", "k"),
-        10 => Ok(either(alloc, first(alloc)?, first(alloc)?)?),
-        11 => triple(alloc, "?s", "p", "?s"),
-        12 => triple(alloc, "?s", "missing", "?v"),
-        _ => Ok(filter(alloc, optional(alloc)?, same(alloc, "?v", "?w")?)?),
-    }
+fn first_less(alloc: Global, right: Pattern) -> Result<Pattern, Fail> {
+    let left = first(alloc)?;
+    Ok(less(alloc, left, right)?)
+}
+
+fn with_third(alloc: Global) -> Result<Pattern, Fail> {
+    let left = optional(alloc)?;
+    let right = third(alloc)?;
+    Ok(and(alloc, left, right)?)
+}
+
+fn where_optional(alloc: Global, condition: Condition) -> Result<Pattern, Fail> {
+    let part = optional(alloc)?;
+    Ok(filter(alloc, part, condition)?)
 }
 
 fn not_same(alloc: Global) -> Result<Pattern, Fail> {
     let condition = negation(alloc, same(alloc, "?w", "'z")?)?;
-    Ok(filter(alloc, optional(alloc)?, condition)?)
+    where_optional(alloc, condition)
+}
+
+fn or(alloc: Global, f: Condition, g: Condition) -> Result<Condition, AllocError> {
+    Ok(Condition::Or(Boxed::new(alloc, f)?, Boxed::new(alloc, g)?))
 }
 
 fn unbound_or_same(alloc: Global) -> Result<Pattern, Fail> {
     let unbound = negation(alloc, Condition::Bound(var(alloc, "w")?))?;
     let same = same(alloc, "?w", "'z")?;
-    let condition = Condition::Or(Boxed::new(alloc, unbound)?, Boxed::new(alloc, same)?);
-    Ok(filter(alloc, optional(alloc)?, condition)?)
+    where_optional(alloc, or(alloc, unbound, same)?)
+}
+
+fn optional_where(alloc: Global) -> Result<Pattern, Fail> {
+    let condition = same(alloc, "?v", "'y")?;
+    let left = first(alloc)?;
+    let right = second(alloc)?;
+    Ok(left_join(alloc, left, right, condition)?)
+}
+
+fn twice(alloc: Global) -> Result<Pattern, Fail> {
+    let left = first(alloc)?;
+    let right = first(alloc)?;
+    Ok(either(alloc, left, right)?)
+}
+
+fn same_variables(alloc: Global) -> Result<Pattern, Fail> {
+    where_optional(alloc, same(alloc, "?v", "?w")?)
+}
+
+// The pattern of a row of the table below.
+fn pattern(alloc: Global, row: u8) -> Result<Pattern, Fail> {
+    match row {
+        1 => optional(alloc),
+        2 => first_less(alloc, second(alloc)?),
+        3 => first_less(alloc, Pattern::Empty),
+        4 => first_less(alloc, third(alloc)?),
+        5 => with_third(alloc),
+        6 => not_same(alloc),
+        7 => unbound_or_same(alloc),
+        8 => optional_where(alloc),
+        9 => select(alloc, "u", "k"),
+        10 => twice(alloc),
+        11 => triple(alloc, "?s", "p", "?s"),
+        12 => triple(alloc, "?s", "missing", "?v"),
+        _ => same_variables(alloc),
+    }
 }
 
 const ROWS: [&str; 13] = [
