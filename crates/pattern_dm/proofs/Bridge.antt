@@ -1,10 +1,10 @@
 -- Rows of numbers and the mappings to terms that they stand for.
-use Rattle.std.proofs.Common.{◌≡◌, ◌≢◌, ◌<◌, ◌≤◌, ◌⊎◌, ◌↔◌, ℕ, zero, suc, List, [], ◌∷◌, Option, Some, None, length, slice_get, refl, sym, ap, ◌∙◌, subst, arith, inl, inr, ⊎_elim, Bool, true, false, cond}
+use Rattle.std.proofs.Common.{◌≡◌, ◌≢◌, ◌<◌, ◌≤◌, ℕ, zero, suc, List, [], ◌∷◌, Option, Some, None, length, slice_get, refl, sym, ap, ◌∙◌, subst, arith, Bool, true, false, cond}
 use Rattle.std.proofs.Math.Path.{fun_ext}
 use Rattle.std.specs.Str.{bytes_eq}
 use Rattle.names_dm.specs.declared.term.Term.{Term}
 use Rattle.solutions_dm.specs.declared.selects.Rename.{Rename}
-use Rattle.solutions_dm.specs.Columns.{number_at, SameIfBound}
+use Rattle.solutions_dm.specs.Columns.{SameIfBound}
 use Rattle.solutions_dm.specs.Merge.{first_bound}
 use Rattle.solutions_dm.specs.Selects.{selected}
 use Rattle.solutions_dm.specs.Table.{Table, HasRow}
@@ -56,6 +56,11 @@ module _ (terms : List Term) where
   one_number d zero b t e f = absurd (cc e)
   one_number d (suc a) zero t e f = absurd (cc f)
   one_number d (suc a) (suc b) t e f = ap suc (d a b (within terms a t e) (e ∙ sym f))
+
+  pub same_number : AreOneToOne terms → (a b : ℕ) → a ≤ length terms → b ≤ length terms → term_at terms a ≡ term_at terms b → a ≡ b
+  same_number d zero zero l k e = refl
+  same_number d zero (suc b) l k e = let x = term_of_number (suc b) k (λ z. omega (arith, z)) in absurd (number_not_zero zero x.0 (e ∙ x.1) refl)
+  same_number d (suc a) b l k e = let x = term_of_number (suc a) l (λ z. omega (arith, z)) in one_number d (suc a) b x.0 x.1 (sym e ∙ x.1)
 
   pub to_terms : (a b : ℕ) → SameIfBound a b → SameIfBoth (term_at terms a) (term_at terms b)
   to_terms zero b h = tt

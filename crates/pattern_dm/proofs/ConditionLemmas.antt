@@ -1,10 +1,9 @@
 -- What the masks of columns say of conditions.
-use Rattle.std.proofs.Common.{◌≡◌, ◌≢◌, ◌<◌, ◌≤◌, ◌↔◌, ℕ, zero, suc, List, Option, Some, None, true, false, length, slice_get, slice_index, refl, sym, ap, ◌∙◌, subst, arith, Contains}
-use denote.Ref.{Bor}
+use Rattle.std.proofs.Common.{◌≡◌, ◌≢◌, ◌≤◌, ◌↔◌, ℕ, zero, suc, List, Option, Some, None, true, false, length, slice_index, refl, sym, ap, ◌∙◌, subst, Contains}
 use Rattle.std.proofs.lemmas.Option.{slice_get_within, get_or_from_slice_get}
 use Rattle.names_dm.specs.declared.term.Term.{Term}
 use Rattle.solutions_dm.specs.Columns.{number_at, has_column}
-use Rattle.solutions_dm.specs.Table.{Table, IsColumn}
+use Rattle.solutions_dm.specs.Table.{Table}
 use Rattle.solutions_dm.proofs.ColumnLemmas.{number_at_none}
 use Rattle.store_dm.specs.Graphs.{GraphValue, HoldsTerm, IsLawful}
 use Rattle.store_dm.specs.Terms.{AreOneToOne, term_at}
@@ -125,11 +124,11 @@ module _ (terms : List Term) (s : Table) (x : List ℕ) (masks : Masks) where
       AreSplit s.rows (λ i. AreSame true (mapping_at terms s i x) (mapping_at terms s i y)) (λ i. AreSame false (mapping_at terms s i x) (mapping_at terms s i y)) masks
   same_columns y a b one o long at_a at_b h = split_as s.rows (λ i. (slice_index a i ≡ slice_index b i) × ((slice_index a i ≢ 0) × (slice_index b i ≢ 0))) (λ i. (slice_index a i ≢ slice_index b i) × ((slice_index a i ≢ 0) × (slice_index b i ≢ 0))) _ _ masks
       (λ i l. subst (λ m. ((m ≡ slice_index b i) × ((m ≢ 0) × (slice_index b i ≢ 0))) ↔ AreSame true (mapping_at terms s i x) (mapping_at terms s i y)) (at_a i)
-          (subst (λ n. ((number_at s.columns i x ≡ n) × ((number_at s.columns i x ≢ 0) × (n ≢ 0))) ↔ AreSame true (mapping_at terms s i x) (mapping_at terms s i y)) (at_b i)
-          (number_same terms (number_at s.columns i x) (number_at s.columns i y) one (o i x l) (o i y l))))
+      (subst (λ n. ((number_at s.columns i x ≡ n) × ((number_at s.columns i x ≢ 0) × (n ≢ 0))) ↔ AreSame true (mapping_at terms s i x) (mapping_at terms s i y)) (at_b i)
+      (number_same terms (number_at s.columns i x) (number_at s.columns i y) one (o i x l) (o i y l))))
       (λ i l. subst (λ m. ((m ≢ slice_index b i) × ((m ≢ 0) × (slice_index b i ≢ 0))) ↔ AreSame false (mapping_at terms s i x) (mapping_at terms s i y)) (at_a i)
-          (subst (λ n. ((number_at s.columns i x ≢ n) × ((number_at s.columns i x ≢ 0) × (n ≢ 0))) ↔ AreSame false (mapping_at terms s i x) (mapping_at terms s i y)) (at_b i)
-          (number_different terms (number_at s.columns i x) (number_at s.columns i y) one (o i x l) (o i y l))))
+      (subst (λ n. ((number_at s.columns i x ≢ n) × ((number_at s.columns i x ≢ 0) × (n ≢ 0))) ↔ AreSame false (mapping_at terms s i x) (mapping_at terms s i y)) (at_b i)
+      (number_different terms (number_at s.columns i x) (number_at s.columns i y) one (o i x l) (o i y l))))
       (subst (λ n. AreSplit n (λ i. (slice_index a i ≡ slice_index b i) × ((slice_index a i ≢ 0) × (slice_index b i ≢ 0))) (λ i. (slice_index a i ≢ slice_index b i) × ((slice_index a i ≢ 0) × (slice_index b i ≢ 0))) masks) long h)
 
   module _ (numbers : List ℕ) (long : length numbers ≡ s.rows) (at : (i : ℕ) → number_at s.columns i x ≡ slice_index numbers i) (o : AreNumbers terms s) (t : Term) where

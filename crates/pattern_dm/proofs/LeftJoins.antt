@@ -17,7 +17,7 @@ use Rattle.pattern_dm.specs.Operators.{JoinWhere, Unjoined, LeftJoin}
 use Rattle.pattern_dm.specs.Passing.{ArePassing}
 use Rattle.pattern_dm.specs.Says.{Says}
 use Rattle.pattern_dm.specs.Solved.{mapping_at, HasSolution, AreNumbers}
-use Rattle.pattern_dm.proofs.Bridge.{row_solution, row_within, same_mapping}
+use Rattle.pattern_dm.proofs.Bridge.{row_solution, same_mapping}
 use Rattle.pattern_dm.proofs.Outcomes.{pair_at, row_of_pair, pair_compatible, merged_at}
 
 -- ---- the pairs that pass
@@ -49,6 +49,7 @@ passing_more places mask n passed p false at e h q = (
     append_none : (ps : List RowPair) → ps ++ [] ≡ ps
     append_none [] = refl
     append_none (x ∷ xs) = λ i. x ∷ append_none xs i
+
     earlier : (k : ℕ) → k < n + 1 → slice_index mask k ≢ 0 → k < n
     earlier k l m = let ne : k ≢ n = λ z. both_ways false refl ((kept_test (slice_index mask n) false e).1 (subst (λ j. slice_index mask j ≢ 0) z m)) in omega arith
 
@@ -75,10 +76,15 @@ module _ (terms : List Term) (left right merged kept alone rows : Table) (ps pas
   kept_back : (m : Mapping) → HasSolution terms kept m → JoinWhere (HasSolution terms left) (HasSolution terms right) f m
   kept_back m h =
       let r = (kept_is (number_at kept.columns h.0)).0 (h.0, h.1, λ x. refl) in
-      let p = pair_at terms left right merged ps d ol or_ exact merge r.0 r.1 in
-      (mapping_at terms left p.0.left, mapping_at terms right p.0.right, (p.0.left, p.2.0, λ y. refl), (p.0.right, p.2.1, λ y. refl), pair_compatible terms left right merged ps d ol or_ exact merge p.0 p.2,
+      let p = pair_at terms left right merged ps d ol or_ exact merge r.0 r.1 in (
+        mapping_at terms left p.0.left,
+        mapping_at terms right p.0.right,
+        (p.0.left, p.2.0, λ y. refl),
+        (p.0.right, p.2.1, λ y. refl),
+        pair_compatible terms left right merged ps d ol or_ exact merge p.0 p.2,
         subst (Says f true) (pair_says r.0 p.0 p.1 p.2.0) ((marks.each r.0 r.1).0 r.2),
-        (λ y. h.2 y ∙ ap (term_at terms) (r.3 y) ∙ merged_at terms left right merged ps d ol or_ exact merge r.0 p.0 p.1 p.2.0 y))
+        (λ y. h.2 y ∙ ap (term_at terms) (r.3 y) ∙ merged_at terms left right merged ps d ol or_ exact merge r.0 p.0 p.1 p.2.0 y),
+      )
 
   -- the row of two compatible mappings, and that it is kept where the condition is true on their union
   kept_row : (u v : Mapping) (i : ℕ) → i < left.rows → ((x : List ℕ) → u x ≡ mapping_at terms left i x) → (h : HasSolution terms right v) → Compatible u v → Says f true (union u v) →
@@ -98,15 +104,19 @@ module _ (terms : List Term) (left right merged kept alone rows : Table) (ps pas
   alone_back : (m : Mapping) → HasSolution terms alone m → Unjoined (HasSolution terms left) (HasSolution terms right) f m
   alone_back m h =
       let r = (alone_is (number_at alone.columns h.0)).0 (h.0, h.1, λ x. refl) in
-      let e : (x : List ℕ) → m x ≡ mapping_at terms left r.0 x = λ x. h.2 x ∙ ap (term_at terms) (r.3 x) in
-      ((r.0, r.1, e), (λ v w c s. let k = kept_row m v r.0 r.1 e w c s in
-          r.2 (record { left = r.0; right = w.0 }) ((passing (record { left = r.0; right = w.0 })).1 (k.0, slice_get_within ps k.0 _ k.2, k.2, k.3)) refl))
+      let e : (x : List ℕ) → m x ≡ mapping_at terms left r.0 x = λ x. h.2 x ∙ ap (term_at terms) (r.3 x) in (
+        (r.0, r.1, e),
+        (λ v w c s. let k = kept_row m v r.0 r.1 e w c s in
+            r.2 (record { left = r.0; right = w.0 }) ((passing (record { left = r.0; right = w.0 })).1 (k.0, slice_get_within ps k.0 _ k.2, k.2, k.3)) refl),
+      )
 
   alone_forth : (m : Mapping) → Unjoined (HasSolution terms left) (HasSolution terms right) f m → HasSolution terms alone m
   alone_forth m h =
       let i = h.0 in
       row_solution terms alone (number_at left.columns i.0) m
-      ((alone_is (number_at left.columns i.0)).1 (i.0, i.1,
+      ((alone_is (number_at left.columns i.0)).1 (
+        i.0,
+        i.1,
         (λ p c s. let k = (passing p).0 c in
             let l : k.0 < merged.rows = omega (arith, k.1, merge.rows) in
             let q = (exact p).0 (k.0, k.1, slice_at k.0 p k.2) in
@@ -114,8 +124,9 @@ module _ (terms : List Term) (left right merged kept alone rows : Table) (ps pas
             h.1 (mapping_at terms right p.right) (p.right, q.1, λ y. refl)
             (λ y. subst (λ o. SameIfBoth o (mapping_at terms right p.right y)) (sym (e y)) (pair_compatible terms left right merged ps d ol or_ exact merge p q y))
             (subst (λ u. Says f true (union u (mapping_at terms right p.right))) (sym (same_mapping m (mapping_at terms left p.left) e))
-              (subst (Says f true) (pair_says k.0 p k.2 q.0) ((marks.each k.0 l).0 k.3)))),
-        (λ x. refl))) i.2
+            (subst (Says f true) (pair_says k.0 p k.2 q.0) ((marks.each k.0 l).0 k.3)))),
+        (λ x. refl),
+      )) i.2
     where
       slice_at : (k : ℕ) (p : RowPair) → slice_get ps k ≡ Some p → get_or ps k p ≡ p
       slice_at k p e = get_or_from_slice_get ps k p p e

@@ -1,9 +1,9 @@
 -- What masks mark.
-use Rattle.std.proofs.Common.{◌≡◌, ◌≢◌, ◌<◌, ◌⊎◌, ◌↔◌, ◌==◌, ◌||◌, ◌&&◌, ℕ, List, Bool, true, false, not, cond, length, map, replicate, slice_index, get_or, IsTrue, refl, sym, ap, ◌∙◌, subst, arith, inl, inr, ⊎_elim}
+use Rattle.std.proofs.Common.{◌≡◌, ◌≢◌, ◌<◌, ◌⊎◌, ◌↔◌, ◌==◌, ◌||◌, ◌&&◌, ℕ, List, Bool, true, false, not, length, map, replicate, slice_index, refl, sym, ◌∙◌, subst, arith, inl, inr, ⊎_elim}
 use Rattle.std.specs.Simd.Lanes.{zip2}
 use Rattle.std.proofs.lemmas.Simd.{get_or-zip2, length-zip2}
 use Rattle.std.proofs.lemmas.List.{get_or-map, length-map, get_or-replicate, length-replicate}
-use Rattle.std.proofs.lemmas.Bool.{both_ways, eqb-true, eq-eqb, cases_Bool, false_from_ne_true}
+use Rattle.std.proofs.lemmas.Bool.{both_ways, eqb-true, eq-eqb, cases_Bool}
 use Rattle.lanes_dm.specs.Flags.{flag}
 use Rattle.pattern_dm.specs.declared.masks.Masks.{Masks}
 use Rattle.pattern_dm.specs.Masks.{Marks, AreSplit, both_flags, either_flags}
@@ -88,17 +88,20 @@ module _ (n : ℕ) (P Q : ℕ → Type 0) (a b : List ℕ) (h : Marks n P a) (k 
       subst (λ n. Marks n (λ i. P i ⊎ Q i) (either_flags a b)) h.long
       (marks_as (length a) _ (λ i. P i ⊎ Q i) (either_flags a b)
       (λ i l. let p = h.each i (omega (arith, h.long)) in let q = k.each i (omega (arith, h.long)) in
-          ((λ r. ⊎_elim (λ s. inl (p.0 s)) (λ s. inr (q.0 s)) r), (λ r. ⊎_elim (λ s. inl (p.1 s)) (λ s. inr (q.1 s)) r))) m)
+      ((λ r. ⊎_elim (λ s. inl (p.0 s)) (λ s. inr (q.0 s)) r), (λ r. ⊎_elim (λ s. inl (p.1 s)) (λ s. inr (q.1 s)) r))) m)
 
 pub marks_not : (n : ℕ) (P : ℕ → Type 0) (a : List ℕ) → Marks n P a → Marks n (λ i. P i → ⊥) (map (λ x. flag (x == 0)) a)
 marks_not n P a h =
     let m = marks_map (λ x. x == 0) (λ x. x ≡ 0) a (λ x. eq_decides x 0) in
     subst (λ n. Marks n (λ i. P i → ⊥) (map (λ x. flag (x == 0)) a)) h.long
     (marks_as (length a) _ (λ i. P i → ⊥) (map (λ x. flag (x == 0)) a)
-    (λ i l. let p = h.each i (omega (arith, h.long)) in ((λ z q. p.1 q z), (λ q. elim (cases_Bool (slice_index a i == 0)) [
-      | inl e ↦ eqb-true _ _ e
-      | inr e ↦ absurd (q (p.0 (λ z. both_ways _ e (eq-eqb _ _ z))))
-    ]))) m)
+    (λ i l. let p = h.each i (omega (arith, h.long)) in (
+      (λ z q. p.1 q z),
+      (λ q. elim (cases_Bool (slice_index a i == 0)) [
+        | inl e ↦ eqb-true _ _ e
+        | inr e ↦ absurd (q (p.0 (λ z. both_ways _ e (eq-eqb _ _ z))))
+      ]),
+    )) m)
 
 pub split_as : (n : ℕ) (P Q R S : ℕ → Type 0) (masks : Masks) → ((i : ℕ) → i < n → P i ↔ R i) → ((i : ℕ) → i < n → Q i ↔ S i) → AreSplit n P Q masks → AreSplit n R S masks
 split_as n P Q R S masks e f h = record { holds = marks_as n P R masks.holds.items e h.holds; fails = marks_as n Q S masks.fails.items f h.fails }

@@ -14,12 +14,12 @@ use Rattle.solutions_dm.specs.Selects.{selected}
 use Rattle.solutions_dm.specs.Table.{Table, HasRow}
 use Rattle.store_dm.specs.Terms.{AreOneToOne, term_at}
 use Rattle.pattern_dm.specs.declared.pattern.Condition.{Condition}
-use Rattle.pattern_dm.specs.Mappings.{Mapping, SameIfBoth, Compatible, union, first_of, AreDisjoint}
+use Rattle.pattern_dm.specs.Mappings.{Mapping, SameIfBoth, Compatible, union, first_of}
 use Rattle.pattern_dm.specs.Masks.{Marks}
 use Rattle.pattern_dm.specs.Operators.{Join, Minus, Select, renamed}
 use Rattle.pattern_dm.specs.Says.{Says}
 use Rattle.pattern_dm.specs.Solved.{mapping_at, HasSolution, AreNumbers, IsOutcome}
-use Rattle.pattern_dm.proofs.Bridge.{term_of_number, number_not_zero, none_is_zero, to_terms, from_terms, union_at, renamed_at, row_solution, row_within, same_mapping}
+use Rattle.pattern_dm.proofs.Bridge.{none_is_zero, to_terms, from_terms, union_at, renamed_at, row_solution, row_within, same_mapping}
 
 -- each row once
 pub distinct_outcome : (terms : List Term) (P : Mapping → Type 0) (rows s : Table) → IsDistinct rows s → ((m : Mapping) → HasSolution terms rows m ↔ P m) → AreNumbers terms rows → IsOutcome terms P s
@@ -105,18 +105,21 @@ module _ (terms : List Term) (left right : Table) where
     pub minus_exact : (m : Mapping) → HasSolution terms s m ↔ Minus (HasSolution terms left) (HasSolution terms right) m
     minus_exact m = (
       (λ h. let n = number_at s.columns h.0 in
-          let r = (rows n).0 (h.0, h.1, λ x. refl) in
-          (row_solution terms left n m r.0 h.2,
+          let r = (rows n).0 (h.0, h.1, λ x. refl) in (
+            row_solution terms left n m r.0 h.2,
             (λ v k c x.
                 let within : (x : List ℕ) → n x ≤ length terms = row_within terms left n ol r.0 in
                 let same : (y : List ℕ) → SameIfBound (n y) (number_at right.columns k.0 y) = λ y. from_terms terms d (n y) (number_at right.columns k.0 y) (within y) (or_ k.0 y k.1)
-                    (subst (λ o. SameIfBoth o (mapping_at terms right k.0 y)) (h.2 y) (subst (SameIfBoth (m y)) (k.2 y) (c y))) in
-                ⊎_elim (λ e. inl (h.2 x ∙ e)) (λ e. inr (k.2 x ∙ e)) (apart_terms (n x) (number_at right.columns k.0 x) (r.1 k.0 k.1 same x))))),
+                (subst (λ o. SameIfBoth o (mapping_at terms right k.0 y)) (h.2 y) (subst (SameIfBoth (m y)) (k.2 y) (c y))) in
+                ⊎_elim (λ e. inl (h.2 x ∙ e)) (λ e. inr (k.2 x ∙ e)) (apart_terms (n x) (number_at right.columns k.0 x) (r.1 k.0 k.1 same x))),
+          )),
       (λ h. let k = h.0 in
           let n = number_at left.columns k.0 in
-          row_solution terms s n m ((rows n).1 ((k.0, k.1, λ x. refl),
+          row_solution terms s n m ((rows n).1 (
+            (k.0, k.1, λ x. refl),
             (λ j l c x. apart_numbers (n x) (number_at right.columns j x) (ol k.0 x k.1) (or_ j x l)
-                (⊎_elim (λ e. inl (sym (k.2 x) ∙ e)) (λ e. inr e) (h.1 (mapping_at terms right j) (j, l, λ y. refl) (λ y. subst (λ o. SameIfBoth o (mapping_at terms right j y)) (sym (k.2 y)) (to_terms terms (n y) (number_at right.columns j y) (c y))) x))))) k.2),
+                (⊎_elim (λ e. inl (sym (k.2 x) ∙ e)) (λ e. inr e) (h.1 (mapping_at terms right j) (j, l, λ y. refl) (λ y. subst (λ o. SameIfBoth o (mapping_at terms right j y)) (sym (k.2 y)) (to_terms terms (n y) (number_at right.columns j y) (c y))) x))),
+          )) k.2),
     )
 
     pub minus_numbers : AreNumbers terms s

@@ -1,5 +1,5 @@
 -- Operands and conditions, by the masks of their parts.
-use Rattle.std.proofs.Common.{◌≡◌, ◌⊎◌, ◌↔◌, ℕ, List, Option, Some, Bool, true, false, not, refl, sym, ap, ◌∙◌, subst}
+use Rattle.std.proofs.Common.{◌≡◌, ◌↔◌, ℕ, List, Option, Bool, true, false, refl, sym, ap, ◌∙◌, subst}
 use denote.Hole.Carrier.{hidden}
 use Rattle.names_dm.specs.declared.term.Term.{Term}
 use Rattle.solutions_dm.specs.Table.{Table}
@@ -8,7 +8,7 @@ use Rattle.pattern_dm.specs.declared.operands.Side.{Side}
 use Rattle.pattern_dm.specs.declared.pattern.Operand.{Operand}
 use Rattle.pattern_dm.specs.declared.pattern.Operand.TheVariants as operands
 use Rattle.pattern_dm.specs.declared.pattern.Condition.{Condition}
-use Rattle.pattern_dm.specs.declared.pattern.Condition.TheVariants.{True, SameTerm, Not, And, Or}
+use Rattle.pattern_dm.specs.declared.pattern.Condition.TheVariants.{SameTerm, Not, And, Or}
 use Rattle.pattern_dm.specs.declared.pattern.Condition.TheBlock.{shape-the_row-Condition-0, hidden-the_row-Condition-0}
 use Rattle.pattern_dm.specs.Mappings.{Mapping}
 use Rattle.pattern_dm.specs.Masks.{AreMasks, AreSplit, Marks, both_flags, either_flags}

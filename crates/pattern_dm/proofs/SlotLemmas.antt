@@ -1,5 +1,5 @@
 -- The rows of a triple pattern are its solutions.
-use Rattle.std.proofs.Common.{◌≡◌, ◌≢◌, ◌<◌, ◌≤◌, ◌⊎◌, ◌↔◌, ℕ, zero, suc, List, [], ◌∷◌, Option, Some, None, Bool, true, false, cond, length, slice_get, refl, sym, ap, ◌∙◌, subst, arith, inl, inr, Contains}
+use Rattle.std.proofs.Common.{◌≡◌, ◌<◌, ◌≤◌, ◌↔◌, ℕ, zero, suc, List, [], ◌∷◌, Some, Bool, true, false, cond, length, slice_get, refl, sym, ap, ◌∙◌, subst, arith, inl, inr}
 use Rattle.std.proofs.lemmas.Bool.{cond-false, false_from_ne_true}
 use Rattle.names_dm.specs.declared.term.Term.{Term}
 use Rattle.names_dm.specs.declared.term.Term.TheVariants as terms_of
@@ -12,15 +12,15 @@ use Rattle.store_dm.specs.declared.slots.Slot.TheVariants as slots
 use Rattle.store_dm.specs.Graphs.{GraphValue, HasTriple, HoldsTerm, IsLawful, Names}
 use Rattle.store_dm.specs.Slots as store
 use Rattle.store_dm.specs.Slots.{Has, IsBound, IsTripleRow, is_variable}
-use Rattle.store_dm.specs.Terms.{AreOneToOne, term_at}
-use Rattle.store_dm.proofs.RowLemmas.{variable_is, is_the_variable, no_variable}
+use Rattle.store_dm.specs.Terms.{term_at}
+use Rattle.store_dm.proofs.RowLemmas.{variable_is, no_variable}
 use Rattle.pattern_dm.specs.declared.pattern.Operand.{Operand}
 use Rattle.pattern_dm.specs.declared.pattern.Operand.TheVariants as operands
 use Rattle.pattern_dm.specs.Mappings.{Mapping}
 use Rattle.pattern_dm.specs.Says.{value_of}
 use Rattle.pattern_dm.specs.Sides.{IsSlotOf}
 use Rattle.pattern_dm.specs.Solution.{IsVariable, Makes, BindsNoOther}
-use Rattle.pattern_dm.specs.Solved.{mapping_at, HasSolution, AreNumbers}
+use Rattle.pattern_dm.specs.Solved.{HasSolution, AreNumbers}
 use Rattle.pattern_dm.proofs.Bridge.{number_not_zero, one_number, row_solution, same_mapping}
 
 number_within : (terms : List Term) (k : ℕ) (t : Term) → term_at terms k ≡ Some t → k ≤ length terms
@@ -99,10 +99,12 @@ module _ (g : GraphValue) (lawful : IsLawful g) where
         let n = number_at rows.columns h.0 in
         let r = (exact n).0 (h.0, h.1, λ x. refl) in
         let t = lawful.named r.0 r.1 in
-        let e : m ≡ (λ x. term_at g.terms (n x)) = same_mapping m (λ x. term_at g.terms (n x)) h.2 in
-        (t.0, (r.0, r.1, t.1),
+        let e : m ≡ (λ x. term_at g.terms (n x)) = same_mapping m (λ x. term_at g.terms (n x)) h.2 in (
+          t.0,
+          (r.0, r.1, t.1),
           (ap (value_of s) e ∙ slot_value s a n r.0.first ha r.2 ∙ t.1.0, ap (value_of p) e ∙ slot_value p b n r.0.second hb r.3 ∙ t.1.1, ap (value_of o) e ∙ slot_value o c n r.0.third hc r.4 ∙ t.1.2),
-          (λ x f k l. h.2 x ∙ ap (term_at g.terms) (r.5 x (λ v. f (slot_variable s a x ha v)) (λ v. k (slot_variable p b x hb v)) (λ v. l (slot_variable o c x hc v)))))
+          (λ x f k l. h.2 x ∙ ap (term_at g.terms) (r.5 x (λ v. f (slot_variable s a x ha v)) (λ v. k (slot_variable p b x hb v)) (λ v. l (slot_variable o c x hc v)))),
+        )
 
     -- the numbers of a solution
     numbers_of : Triad → List ℕ → ℕ
@@ -121,11 +123,14 @@ module _ (g : GraphValue) (lawful : IsLawful g) where
         let names = h.1.2 in
         let makes = h.2 in
         let e : (x : List ℕ) → m x ≡ term_at g.terms (numbers_of r x) = λ x. go t r names makes h.3 x (is_variable a x) (is_variable b x) (is_variable c x) refl refl refl in
-        row_solution g.terms rows (numbers_of r) m ((exact (numbers_of r)).1 (r, h.1.1,
+        row_solution g.terms rows (numbers_of r) m ((exact (numbers_of r)).1 (
+          r,
+          h.1.1,
           value_slot s a (numbers_of r) m r.first t.subject ha e makes.0 names.0 (r, h.1.1, inl names.0),
           value_slot p b (numbers_of r) m r.second (terms_of.Iri t.predicate) hb e makes.1 names.1 (r, h.1.1, inr (inl names.1)),
           value_slot o c (numbers_of r) m r.third t.object hc e makes.2 names.2 (r, h.1.1, inr (inr names.2)),
-          (λ x f k l. cond-false _ _ _ (false_from_ne_true _ (λ z. f (variable_is a x z))) ∙ cond-false _ _ _ (false_from_ne_true _ (λ z. k (variable_is b x z))) ∙ cond-false _ _ _ (false_from_ne_true _ (λ z. l (variable_is c x z)))))) e
+          (λ x f k l. cond-false _ _ _ (false_from_ne_true _ (λ z. f (variable_is a x z))) ∙ cond-false _ _ _ (false_from_ne_true _ (λ z. k (variable_is b x z))) ∙ cond-false _ _ _ (false_from_ne_true _ (λ z. l (variable_is c x z)))),
+        )) e
       where
         go : (t : Statement) (r : Triad) → Names g.terms r t → Makes s p o m t → BindsNoOther s p o m → (x : List ℕ) (u v w : Bool) → is_variable a x ≡ u → is_variable b x ≡ v → is_variable c x ≡ w →
             m x ≡ term_at g.terms (cond u r.first (cond v r.second (cond w r.third 0)))

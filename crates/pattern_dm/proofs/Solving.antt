@@ -1,13 +1,12 @@
 -- The operators on the solutions of the parts give those of the pattern.
-use Rattle.std.proofs.Common.{◌≡◌, ◌⊎◌, ◌↔◌, ℕ, List, None, true, refl, sym, ap, ◌∙◌, subst, arith, inl, inr, ⊎_elim}
+use Rattle.std.proofs.Common.{◌≡◌, ◌⊎◌, ◌↔◌, ℕ, List, None, true, refl, ap, ◌∙◌, arith, inl, inr, ⊎_elim}
 use denote.Hole.Carrier.{hidden}
 use Rattle.names_dm.specs.declared.term.Term.{Term}
-use Rattle.names_dm.specs.Statements.{Statement}
 use Rattle.solutions_dm.specs.declared.selects.Rename.{Rename}
 use Rattle.solutions_dm.specs.Columns.{number_at}
 use Rattle.solutions_dm.specs.Table.{Table, HasRow}
 use Rattle.store_dm.specs.Graphs.{GraphValue, HasTriple}
-use Rattle.store_dm.specs.Terms.{term_at}
+use Rattle.store_dm.specs.Terms.{AreOneToOne, term_at}
 use Rattle.pattern_dm.specs.declared.pattern.Condition.{Condition}
 use Rattle.pattern_dm.specs.declared.pattern.Pattern.{Pattern}
 use Rattle.pattern_dm.specs.declared.pattern.Pattern.TheVariants as patterns
@@ -16,8 +15,8 @@ use Rattle.pattern_dm.specs.Mappings.{Mapping}
 use Rattle.pattern_dm.specs.Operators.{Join, LeftJoin, Minus, Select}
 use Rattle.pattern_dm.specs.Says.{Says}
 use Rattle.pattern_dm.specs.Solution.{Solution}
-use Rattle.pattern_dm.specs.Solved.{AreNumbers, HasSolution, IsOutcome, IsSolved}
-use Rattle.pattern_dm.proofs.Bridge.{row_solution, none_is_zero}
+use Rattle.pattern_dm.specs.Solved.{AreNumbers, AreSolutions, HasSolution, IsOutcome, IsSolved}
+use Rattle.pattern_dm.proofs.Bridge.{row_solution, same_number}
 
 pub outcome_as : (terms : List Term) (P Q : Mapping → Type 0) (s : Table) → ((m : Mapping) → P m ↔ Q m) → IsOutcome terms P s → IsOutcome terms Q s
 outcome_as terms P Q s e h = record { exact = λ m. ((λ k. (e m).0 ((h.exact m).0 k)), (λ k. (h.exact m).1 ((e m).1 k))); once = h.once; numbers = h.numbers }
@@ -83,3 +82,11 @@ module _ (g : GraphValue) (p : Pattern) (rows s : Table) (hp : IsSolved g p rows
   unfolding shape-the_row-Pattern-0 hidden-the_row-Pattern-0 hidden
   select_solved rs h = outcome_as g.terms (Select (HasSolution g.terms rows) rs) (Select (Solution (HasTriple g) p) rs) s
       (select_as (HasSolution g.terms rows) (Solution (HasTriple g) p) hp.exact rs) h
+
+-- rows that are one mapping have the same numbers
+pub solutions_once : (g : GraphValue) (p : Pattern) (s : Table) → AreOneToOne g.terms → IsSolved g p s → AreSolutions g p s
+solutions_once g p s d h = record {
+  exact = h.exact;
+  once = λ i j l k e. h.once i j l k (λ x. same_number g.terms d (number_at s.columns i x) (number_at s.columns j x) (h.numbers i x (omega arith)) (h.numbers j x k) (e x));
+  numbers = h.numbers;
+}

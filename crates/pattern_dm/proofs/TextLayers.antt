@@ -22,7 +22,6 @@ pub text_or : (f g : Condition) → condition_text (conditions.Or f g) ≡ codes
 unfolding shape-the_row-Condition-0 hidden-the_row-Condition-0 hidden
 text_or f g = refl
 
-
 pub text_and : (p q : Pattern) → pattern_text (patterns.And p q) ≡ codes "{ " ++ pattern_text p ++ codes " " ++ pattern_text q ++ codes " }"
 unfolding shape-the_row-Pattern-0 hidden-the_row-Pattern-0 hidden
 text_and p q = refl
@@ -46,4 +45,3 @@ text_filter p f = refl
 pub text_select : (p : Pattern) (rs : List Rename) → pattern_text (patterns.Select p rs) ≡ codes "{ SELECT " ++ spaced (map rename_text rs) ++ codes " WHERE " ++ pattern_text p ++ codes " }"
 unfolding shape-the_row-Pattern-0 hidden-the_row-Pattern-0 hidden
 text_select p rs = refl
-

@@ -15,6 +15,7 @@ spaced_more f xs k d l = ap (λ ys. spaced (map f ys)) (take_more xs k d l) ∙ 
     map_push : {X : Type 0} (f : X → List ℕ) (ys : List X) (y : X) → map f (ys ++ y ∷ []) ≡ map f ys ++ f y ∷ []
     map_push f [] y = refl
     map_push f (z ∷ zs) y = ap (λ ts. f z ∷ ts) (map_push f zs y)
+
     length_front : {X : Type 0} (xs : List X) (k : ℕ) → k < length xs → length (take k xs) ≡ k
     length_front [] k l = absurd (omega arith)
     length_front (x ∷ xs) zero l = refl

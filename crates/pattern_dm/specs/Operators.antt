@@ -1,5 +1,5 @@
 -- The operators on sets of solution mappings (SPARQL 1.1 Query Language, section 18.5), each as the mappings that it has.
-use Rattle.std.specs.Prelude.{◌≡◌, ◌⊎◌, ℕ, List, [], ◌∷◌, Option, None, true, bytes_eq, if◌then◌else◌}
+use Rattle.std.specs.Prelude.{◌≡◌, ◌⊎◌, ℕ, List, [], ◌∷◌, None, true, bytes_eq, if◌then◌else◌}
 use Rattle.solutions_dm.specs.declared.selects.Rename.{Rename}
 use Rattle.pattern_dm.specs.declared.pattern.Condition.{Condition}
 use Rattle.pattern_dm.specs.Mappings.{Mapping, Compatible, union, AreDisjoint}

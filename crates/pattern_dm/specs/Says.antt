@@ -1,6 +1,6 @@
 -- What a condition says of a mapping (SPARQL 1.1 Query Language, section 17.2): that it is true, or that it is false. Where it says
 -- neither, it is an error.
-use Rattle.std.specs.Prelude.{◌≡◌, ◌≢◌, ◌⊎◌, ℕ, List, Option, Some, None, Bool, true, false, not}
+use Rattle.std.specs.Prelude.{◌≡◌, ◌≢◌, ◌⊎◌, Option, Some, None, Bool, true, false, not}
 use Rattle.names_dm.specs.declared.term.Term.{Term}
 use Rattle.names_dm.specs.declared.term.Term.TheVariants as terms
 use Rattle.pattern_dm.specs.declared.pattern.Operand.{Operand}

@@ -22,12 +22,18 @@ HasSolution terms s m = (i : ℕ) × (i < s.rows) × ((x : List ℕ) → m x ≡
 abbrev pub AreNumbers : List Term → Table → Type 0
 AreNumbers terms s = (i : ℕ) (x : List ℕ) → i < s.rows → number_at s.columns i x ≤ length terms
 
--- exactly these mappings, each once
+-- exactly these mappings, and no two rows have the same numbers
 pub record IsOutcome (terms : List Term) (P : Mapping → Type 0) (s : Table) : Type 0 where
   pub exact : (m : Mapping) → HasSolution terms s m ↔ P m
   pub once : AreOnce s
   pub numbers : AreNumbers terms s
 
 -- exactly the solutions of the pattern, each once
+pub record AreSolutions (g : GraphValue) (p : Pattern) (s : Table) : Type 0 where
+  pub exact : (m : Mapping) → HasSolution g.terms s m ↔ Solution (HasTriple g) p m
+  pub once : (i j : ℕ) → i < j → j < s.rows → ((x : List ℕ) → mapping_at g.terms s i x ≡ mapping_at g.terms s j x) → ⊥
+  pub numbers : AreNumbers g.terms s
+
+-- the same, where no two rows have the same numbers
 abbrev pub IsSolved : GraphValue → Pattern → Table → Type 0
 IsSolved g p s = IsOutcome g.terms (Solution (HasTriple g) p) s

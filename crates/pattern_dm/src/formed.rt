@@ -63,7 +63,10 @@ pub fn is_well_formed(pattern: &Pattern) -> bool
         }
         Pattern::Filter(part, _) => is_well_formed(part.get()),
         Pattern::Select(part, renames) => {
-            both(is_well_formed(part.get()), are_selectable(renames.as_slice()))
+            both(
+                is_well_formed(part.get()),
+                are_selectable(renames.as_slice()),
+            )
         }
     }
 }

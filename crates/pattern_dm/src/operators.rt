@@ -13,8 +13,8 @@ ghost use Rattle.pattern_dm.specs.Solved.{AreNumbers, HasSolution, IsOutcome};
 use crate::conditions::masks_of;
 use crate::pattern::Condition;
 use solutions_dm::{
-    PairList, Renames, RowPair, Solutions, distinct, keep, merge, minus, pairs, select, union, unit,
-    unmatched,
+    PairList, Renames, RowPair, Solutions, distinct, keep, merge, minus, pairs, select, union,
+    unit, unmatched,
 };
 use std::alloc::{AllocError, Global};
 use store_dm::Graph;
@@ -53,11 +53,7 @@ pub fn without(alloc: Global, left: &Solutions, right: &Solutions) -> Result<Sol
 }
 
 // The rows under other names.
-pub fn selected(
-    alloc: Global,
-    rows: &Solutions,
-    renames: &Renames,
-) -> Result<Solutions, AllocError>
+pub fn selected(alloc: Global, rows: &Solutions, renames: &Renames) -> Result<Solutions, AllocError>
     requires { AreTargetsApart renames.now }
     ensures { IfOk result (λ s. (terms : List TheTerm) → AreNumbers terms rows.now → IsOutcome terms (Select (HasSolution terms rows.now) renames.now) s) }
 {

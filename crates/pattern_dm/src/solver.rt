@@ -1,7 +1,7 @@
 ghost use Rattle.std.specs.Prelude.{◌≡◌, IfOk};
 ghost use Rattle.store_dm.specs.Graphs.{IsLawful};
 ghost use Rattle.pattern_dm.specs.Formed.{IsWellFormed};
-ghost use Rattle.pattern_dm.specs.Solved.{IsSolved};
+ghost use Rattle.pattern_dm.specs.Solved.{AreSolutions, IsSolved};
 
 use crate::operands::slot_of;
 use crate::operators::{either, empty, filtered, joined, left_joined, selected, without};
@@ -72,9 +72,10 @@ fn solutions_of(alloc: Global, pattern: &Pattern, graph: &Graph) -> Result<Solut
 /// section 18.6, each solution once). Each number is 0 or a term's. Refused for want of memory alone.
 pub fn solve(alloc: Global, pattern: &Pattern, graph: &Graph) -> Result<Solutions, AllocError>
     requires { IsWellFormed pattern.now }
-    ensures { IfOk result (λ s. IsSolved graph.now pattern.now s) }
+    ensures { IfOk result (λ s. AreSolutions graph.now pattern.now s) }
 {
     // The call tells that each term of the graph has one number.
     let _count = graph.len();
-    solutions_of(alloc, pattern, graph)
+    let rows = solutions_of(alloc, pattern, graph)?;
+    Ok(rows)
 }

@@ -154,7 +154,11 @@ fn push_rename(out: &mut String, rename: &Rename) -> Result<(), AllocError>
 fn push_gap(out: &mut String, place: usize) -> Result<(), AllocError>
     ensures { OnOk result (string_bytes out.new ≡ string_bytes out.old ++ gap place) }
 {
-    if place == 0 { Ok(()) } else { out.push_str(" ") }
+    if place == 0 {
+        Ok(())
+    } else {
+        out.push_str(" ")
+    }
 }
 
 fn push_renames(out: &mut String, renames: &[Rename]) -> Result<(), AllocError>

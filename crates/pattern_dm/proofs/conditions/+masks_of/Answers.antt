@@ -1,4 +1,4 @@
-use Rattle.std.proofs.Common.{◌≡◌, ap, subst, sym}
+use Rattle.std.proofs.Common.{◌≡◌, subst, sym}
 use Rattle.std.proofs.lemmas.Result.{IfOk-weaker}
 use Rattle.pattern_dm.specs.declared.masks.Masks.{Masks}
 use Rattle.pattern_dm.specs.declared.pattern.Condition.{Condition}

@@ -1,4 +1,4 @@
-use Rattle.std.proofs.Common.{◌≡◌, ◌∙◌, ℕ, List, true, length, ap, subst, sym}
+use Rattle.std.proofs.Common.{◌∙◌, ℕ, List, true, length, ap, subst, sym}
 use Rattle.std.proofs.lemmas.Result.{IfOk-weaker}
 use Rattle.solutions_dm.specs.Repeats.{IsDistinct}
 use Rattle.solutions_dm.specs.Table.{Table}

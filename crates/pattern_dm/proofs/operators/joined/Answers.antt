@@ -1,4 +1,4 @@
-use Rattle.std.proofs.Common.{◌≡◌, List}
+use Rattle.std.proofs.Common.{List}
 use Rattle.std.proofs.lemmas.Result.{IfOk-weaker}
 use Rattle.names_dm.specs.declared.term.Term.{Term}
 use Rattle.solutions_dm.specs.Repeats.{IsDistinct}

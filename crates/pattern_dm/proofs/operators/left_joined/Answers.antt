@@ -1,4 +1,4 @@
-use Rattle.std.proofs.Common.{◌≡◌, ◌∙◌, ℕ, List, true, length, ap, subst, sym}
+use Rattle.std.proofs.Common.{◌∙◌, ℕ, List, true, length, ap, subst, sym}
 use Rattle.std.proofs.lemmas.Result.{IfOk-weaker}
 use Rattle.solutions_dm.specs.declared.row_pair.RowPair.{RowPair}
 use Rattle.solutions_dm.specs.Repeats.{IsDistinct}
@@ -45,10 +45,10 @@ returns c =
     let or_ = c.requires.rights in
     let marks : Marks unions.rows (λ i. Says f true (mapping_at terms unions i)) mask = subst (λ (k : List ℕ). Marks unions.rows (λ i. Says f true (mapping_at terms unions i)) k) (sym c.as_slice.ensures.value) c.in_ok-masks.ensures.holds in
     let passing : ArePassing ps mask (length ps) passed = subst (λ (k : List ℕ). ArePassing ps k (length ps) passed) (c.as_slice-3.ensures.value ∙ sym c.as_slice.ensures.value)
-        (subst (λ (qs : List RowPair). ArePassing qs c.as_slice-3.result.now (length qs) passed) c.as_slice-2.ensures c.in_ok-passed.ensures) in
+    (subst (λ (qs : List RowPair). ArePassing qs c.as_slice-3.result.now (length qs) passed) c.as_slice-2.ensures c.in_ok-passed.ensures) in
     IfOk-weaker c.distinct.result (λ (s : Table). IsDistinct rows s) (λ (s : Table). IsOutcome terms (LeftJoin (HasSolution terms left) (HasSolution terms right) f) s)
     (λ s d. distinct_outcome terms (LeftJoin (HasSolution terms left) (HasSolution terms right) f) rows s d
     (left_join_exact terms left right unions kept alone rows ps passed f mask one ol or_ exact merge marks passing c.in_ok-kept.ensures c.in_ok-alone.ensures c.in_ok-rows.ensures)
     (union_numbers terms kept alone rows c.in_ok-rows.ensures
-      (kept_numbers terms unions kept mask c.in_ok-kept.ensures (merged_numbers terms left right unions ps one ol or_ exact merge)) (alone_numbers terms left alone passed c.in_ok-alone.ensures ol)))
+    (kept_numbers terms unions kept mask c.in_ok-kept.ensures (merged_numbers terms left right unions ps one ol or_ exact merge)) (alone_numbers terms left alone passed c.in_ok-alone.ensures ol)))
     c.distinct.ensures

@@ -1,10 +1,9 @@
-use Rattle.std.proofs.Common.{◌≡◌, ◌⊎◌, ◌∙◌, ℕ, List, None, true, ap, rules, subst, sym}
+use Rattle.std.proofs.Common.{◌≡◌, ◌⊎◌, ℕ, List, None, true, rules, subst, sym}
 use Rattle.std.proofs.lemmas.Result.{IfOk-weaker}
 use Rattle.names_dm.specs.declared.term.Term.{Term}
 use Rattle.solutions_dm.specs.Table.{Table}
 use Rattle.store_dm.specs.Terms.{AreOneToOne}
 use Rattle.pattern_dm.specs.declared.pattern.Pattern.{Pattern}
-use Rattle.pattern_dm.specs.declared.pattern.Pattern.TheVariants as patterns
 use Rattle.pattern_dm.specs.Operators.{Join, LeftJoin, Minus, Select}
 use Rattle.pattern_dm.specs.Says.{Says}
 use Rattle.pattern_dm.specs.Solved.{AreNumbers, HasSolution, IsOutcome, IsSolved}

@@ -1,4 +1,4 @@
-use Rattle.std.proofs.Common.{◌++◌, get_or, map, string_bytes, take, ap, ◌∙◌, sym, arith, append_assoc}
+use Rattle.std.proofs.Common.{◌++◌, map, string_bytes, take, ap, ◌∙◌, sym, arith, append_assoc}
 use Rattle.pattern_dm.specs.Texts.{gap, rename_text, spaced}
 use Rattle.pattern_dm.proofs.TextLemmas.{spaced_more}
 use Rattle.pattern_dm.proofs.texts.push_renames.Goals as goal
