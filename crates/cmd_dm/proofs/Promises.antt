@@ -423,10 +423,10 @@ tells_keys bytes triples document = record {
     told : (base : List ℕ) (D : Data) (verdict : Verdict) → IsTrue (is_base base) → IsDatabase D → AreTriplesOf graph.MapKeys base D triples
         → IsVerdict triples verdict → (verdict ≡ Yes) ↔ KeepsKeys D
     told base D verdict good database are is =
-      let interpreted = (interpreted_below base good D database).interpreted triples are in (
-        (λ yes_is. interpreted.0 (subst (IsVerdict triples) yes_is is)),
-        (λ kept. one_verdict triples verdict Yes is (interpreted.1 kept)),
-      )
+        let interpreted = (interpreted_below base good D database).interpreted triples are in (
+          (λ yes_is. interpreted.0 (subst (IsVerdict triples) yes_is is)),
+          (λ kept. one_verdict triples verdict Yes is (interpreted.1 kept)),
+        )
 
 -- each command keeps its promise
 pub promised : (command : Command) {s t : ShelfState} {o p : SinkState} (status : Status) → Ends (plan_of command).target (plan_of command).script s t o p status → Promises command s t o p status

@@ -249,6 +249,7 @@ consistent_some files name none =
     on_triples bytes (Ok triples) right none =
         verdict_some triples (document_subjects (lines bytes) triples right.0) (λ verdict is. none (done (text_work (verdict_text verdict))) (verdict, (is, refl)))
     on_triples bytes (Err why) right none = none (refused why) refl
+
 -- tables with rows have files
 files_some : (folder : List ℕ) (tables : List Table) (rows : List (List Row)) → length rows ≡ length tables → (files : Batch) × AreFilesOf folder (map shape_of tables) rows files
 files_some folder [] [] long = ([], tt)

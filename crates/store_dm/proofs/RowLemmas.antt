@@ -169,7 +169,7 @@ module _ (s p o : Slot) (found : List (ℕ × ℕ × ℕ)) where
         (slot_apart (slot_column s true (map (part_of Subject) found)) p (not (is_same_variable s p)) _ (slot_apart [] s true _ tt (λ x e v. refl))
         (λ x e v. slot_has s true (map (part_of Subject) found) x ∙ sym (same_at s p x v) ∙ not_true _ e))
         (λ x e v. let k = or_parts (is_same_variable s o) (is_same_variable p o) (not_true _ e) in
-            front_has x (sym (same_at s o x v) ∙ k.0) (sym (same_at p o x v) ∙ k.1));
+        front_has x (sym (same_at s o x v) ∙ k.0) (sym (same_at p o x v) ∙ k.1));
   }
 
   -- what a row binds a variable to
@@ -193,12 +193,12 @@ module _ (s p o : Slot) (found : List (ℕ × ℕ × ℕ)) where
     row_value : (x : List ℕ) → row i x ≡ value t x
     row_value x = number_at_append front _ i x
         ∙ (λ q. cond (has_column_append (slot_column s true (map (part_of Subject) found)) (slot_column p (not (is_same_variable s p)) (map (part_of Predicate) found)) x q)
-            (number_at_append (slot_column s true (map (part_of Subject) found)) (slot_column p (not (is_same_variable s p)) (map (part_of Predicate) found)) i x q)
-            (slot_number o (not (is_same_variable s o || is_same_variable p o)) (map (part_of Object) found) i x q))
+        (number_at_append (slot_column s true (map (part_of Subject) found)) (slot_column p (not (is_same_variable s p)) (map (part_of Predicate) found)) i x q)
+        (slot_number o (not (is_same_variable s o || is_same_variable p o)) (map (part_of Object) found) i x q))
         ∙ (λ q. cond (slot_has s true (map (part_of Subject) found) x q || slot_has p (not (is_same_variable s p)) (map (part_of Predicate) found) x q)
-            (cond (slot_has s true (map (part_of Subject) found) x q) ((slot_number s true (map (part_of Subject) found) i x ∙ ap (λ n. cond (is_variable s x) n 0) first) q)
-              ((slot_number p (not (is_same_variable s p)) (map (part_of Predicate) found) i x ∙ ap (λ n. cond (not (is_same_variable s p) && is_variable p x) n 0) second) q))
-            (cond (not (is_same_variable s o || is_same_variable p o) && is_variable o x) (third q) 0))
+        (cond (slot_has s true (map (part_of Subject) found) x q) ((slot_number s true (map (part_of Subject) found) i x ∙ ap (λ n. cond (is_variable s x) n 0) first) q)
+        ((slot_number p (not (is_same_variable s p)) (map (part_of Predicate) found) i x ∙ ap (λ n. cond (not (is_same_variable s p) && is_variable p x) n 0) second) q))
+        (cond (not (is_same_variable s o || is_same_variable p o) && is_variable o x) (third q) 0))
         ∙ go (is_variable s x) (is_variable p x) (is_variable o x) (is_same_variable s p) (is_same_variable s o) (is_same_variable p o) refl refl refl refl refl refl
       where
         go : (u v w sp so po : Bool) → is_variable s x ≡ u → is_variable p x ≡ v → is_variable o x ≡ w → is_same_variable s p ≡ sp → is_same_variable s o ≡ so → is_same_variable p o ≡ po →
@@ -302,7 +302,7 @@ module _ (g : GraphValue) (s p o : Slot) (listed found : List (ℕ × ℕ × ℕ
       let t : ℕ × ℕ × ℕ = (n.first, n.second, n.third) in
       let k : Contains listed t = (exact n.first n.second n.third).1 (h.1, (has_fits s m n.first h.2, has_fits p m n.second h.3, has_fits o m n.third h.4)) in
       let e : test t ≡ true = and_from _ _ (implied_from _ _ (λ f. eq-eqb _ _ (same_numbers s p m n.first n.second h.2 h.3 f)))
-          (and_from _ _ (implied_from _ _ (λ f. eq-eqb _ _ (same_numbers s o m n.first n.third h.2 h.4 f))) (implied_from _ _ (λ f. eq-eqb _ _ (same_numbers p o m n.second n.third h.3 h.4 f)))) in
+      (and_from _ _ (implied_from _ _ (λ f. eq-eqb _ _ (same_numbers s o m n.first n.third h.2 h.4 f))) (implied_from _ _ (λ f. eq-eqb _ _ (same_numbers p o m n.second n.third h.3 h.4 f)))) in
       let c : Contains found t = subst (λ (xs : List (ℕ × ℕ × ℕ)). Contains xs t) (sym kept) (Contains-filter test t listed k e) in
       let r = row_has c.0 t c.1 c.2 in
       (c.0, c.1, one_mapping s p o m (row s p o found c.0) n.first n.second n.third h.2 h.3 h.4 h.5 r.first r.second r.third r.others)

@@ -14,7 +14,7 @@ returns-clause-exact c = IfOk-weaker c.table_of.result (λ (t : Table). t ≡ re
     (c.as_slice.ensures.value ∙ c.in_ok-found.ensures ∙ (λ q. filter (agrees (c.is_same_variable.ensures q) (c.is_same_variable-2.ensures q) (c.is_same_variable-3.ensures q)) (map (numbers c.find-matches.result.beginning) c.find-matches.result.triads.now)))
     (c.requires.subject, c.requires.predicate, c.requires.object) (c.requires.subject_bound, c.requires.predicate_bound, c.requires.object_bound)
     (λ x y z. subst (λ (w : ℕ × ℕ × ℕ). Contains (map (numbers c.find-matches.result.beginning) c.find-matches.result.triads.now) (x, y, z) ↔ (Contains c.args.graph.now.triples (record { first = x; second = y; third = z }) × FitsAll (record { first = w.0; second = w.1; third = w.2 }) (record { first = x; second = y; third = z })))
-      (λ q. (c.sought.ensures q, c.sought-2.ensures q, c.sought-3.ensures q)) (c.find-matches.ensures.exact x y z)) m))
+    (λ q. (c.sought.ensures q, c.sought-2.ensures q, c.sought-3.ensures q)) (c.find-matches.ensures.exact x y z)) m))
     c.table_of.ensures
 
 pub returns-clause-once : goal.returns-clause-once
@@ -24,5 +24,5 @@ returns-clause-once c = IfOk-weaker c.table_of.result (λ (t : Table). t ≡ rec
     (c.as_slice.ensures.value ∙ c.in_ok-found.ensures ∙ (λ q. filter (agrees (c.is_same_variable.ensures q) (c.is_same_variable-2.ensures q) (c.is_same_variable-3.ensures q)) (map (numbers c.find-matches.result.beginning) c.find-matches.result.triads.now)))
     (c.requires.subject, c.requires.predicate, c.requires.object) (c.requires.subject_bound, c.requires.predicate_bound, c.requires.object_bound)
     (λ x y z. subst (λ (w : ℕ × ℕ × ℕ). Contains (map (numbers c.find-matches.result.beginning) c.find-matches.result.triads.now) (x, y, z) ↔ (Contains c.args.graph.now.triples (record { first = x; second = y; third = z }) × FitsAll (record { first = w.0; second = w.1; third = w.2 }) (record { first = x; second = y; third = z })))
-      (λ q. (c.sought.ensures q, c.sought-2.ensures q, c.sought-3.ensures q)) (c.find-matches.ensures.exact x y z)) c.find-matches.ensures.once))
+    (λ q. (c.sought.ensures q, c.sought-2.ensures q, c.sought-3.ensures q)) (c.find-matches.ensures.exact x y z)) c.find-matches.ensures.once))
     c.table_of.ensures
