@@ -12,6 +12,3 @@ mod row_set;
 pub use cleaning::clean;
 pub use keeping::kept;
 pub use removal::{Removal, Removals};
-
-#[cfg(test)]
-mod tests;

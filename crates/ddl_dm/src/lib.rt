@@ -4,8 +4,6 @@
 mod canonical;
 mod ddl;
 mod drafts;
-#[cfg(test)]
-mod tests;
 
 pub use canonical::shape_text;
 pub use ddl::{DdlError, read_ddl};

@@ -7,8 +7,6 @@ mod keys;
 mod reader;
 mod statements;
 mod syntax;
-#[cfg(test)]
-mod tests;
 mod token;
 
 pub use file::{SyntaxError, read_statements};

@@ -6,6 +6,3 @@ mod word;
 
 pub use naming::naming_laws;
 pub use word::{Word, literal_type};
-
-#[cfg(test)]
-mod tests;

@@ -16,6 +16,3 @@ pub use database::{holds_all, is_violated, violations, violations_by};
 pub use index::{Entry, KeyIndex};
 pub use table_indexes::{KeyIndexes, rows_of, table_of};
 pub use violation::{Violation, ViolationKind, ViolationList};
-
-#[cfg(test)]
-mod tests;

@@ -6,6 +6,3 @@ mod columns;
 
 pub use bytes::{ByteClass, count_byte, first_of};
 pub use columns::{and_into, has_zero, mask_eq, mask_ne, mask_nonzero, mask_same};
-
-#[cfg(test)]
-mod tests;

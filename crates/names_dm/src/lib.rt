@@ -39,6 +39,3 @@ pub type Triples = value_dm::Sequence<Triple>;
 
 /// Names of variables in order.
 pub type Vars = value_dm::Sequence<Var>;
-
-#[cfg(test)]
-mod tests;

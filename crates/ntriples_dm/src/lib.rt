@@ -6,6 +6,3 @@ mod writer;
 
 pub use texts::{term_text, triple_text};
 pub use writer::write_triple;
-
-#[cfg(test)]
-mod tests;

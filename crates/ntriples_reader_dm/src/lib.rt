@@ -15,6 +15,3 @@ pub use fault::GraphError;
 pub use lawful::lawful_triple;
 pub use laws::{one_meaning, written_text};
 pub use lines::read_graph;
-
-#[cfg(test)]
-mod tests;

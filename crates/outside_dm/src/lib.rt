@@ -12,8 +12,6 @@ mod no_fault_sink;
 mod shelf;
 mod sink;
 mod stream_sink;
-#[cfg(test)]
-mod tests;
 mod transfers;
 
 pub use files::{FileList, NamedFile};
@@ -26,3 +24,4 @@ pub use no_fault_sink::NoFaultSink;
 pub use shelf::{LONGEST, LoadError, Shelf, StoreError};
 pub use sink::{PutError, Sink};
 pub use stream_sink::StreamSink;
+pub use transfers::read_whole;

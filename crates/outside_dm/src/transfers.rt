@@ -82,7 +82,7 @@ fn read_chunks<F: Reader>(reader: &mut F, into: &mut Vec<u8>) -> Result<(), Load
 
 /// Appends all that the reader gives, at most `LONGEST` bytes. A refusal leaves `into` as it was,
 /// and is never `Absent`.
-pub(crate) fn read_whole<F: Reader>(reader: &mut F, into: &mut Vec<u8>) -> Result<(), LoadError>
+pub fn read_whole<F: Reader>(reader: &mut F, into: &mut Vec<u8>) -> Result<(), LoadError>
     ensures { Reads F.has_made reader.old reader.new into.old.items into.new.items result }
 {
     let start = into.len();

@@ -49,6 +49,3 @@ pub type ForeignKeys = Sequence<ForeignKey>;
 
 /// Tables without keys.
 pub type ShapeTables = Sequence<ShapeTable>;
-
-#[cfg(test)]
-mod tests;

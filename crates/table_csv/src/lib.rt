@@ -19,6 +19,3 @@ pub use writing::table_text;
 
 /// The rows of each table.
 pub type RowsList = Sequence<Rows>;
-
-#[cfg(test)]
-mod tests;

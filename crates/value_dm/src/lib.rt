@@ -41,6 +41,3 @@ pub use writing::field_text;
 
 /// Texts in order.
 pub type Names = Sequence<Text>;
-
-#[cfg(test)]
-mod tests;

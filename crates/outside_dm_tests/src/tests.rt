@@ -1,9 +1,8 @@
 ghost use Rattle.std.specs.Prelude.{◌≡◌, IfOk, encode_utf8_all};
 
-use crate::transfers::read_whole;
-use crate::{
+use outside_dm::{
     Calls, Cut, Cuts, FileList, FolderShelf, LoadError, MemoryShelf, MemorySink, NamedFile,
-    NoFaultShelf, NoFaultSink, PutError, Shelf, Sink, StoreError, StreamSink,
+    NoFaultShelf, NoFaultSink, PutError, Shelf, Sink, StoreError, StreamSink, read_whole,
 };
 use std::alloc::{AllocError, Global};
 use std::io::{Read, Write};

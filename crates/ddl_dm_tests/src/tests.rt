@@ -1,5 +1,4 @@
-use crate::canonical::shape_text;
-use crate::ddl::read_ddl;
+use ddl_dm::{read_ddl, shape_text};
 use schema_dm::{Column, Columns, ForeignKey, Shape, ShapeTable, ShapeTables, Table};
 use std::alloc::{AllocError, Global};
 use std::test::Fail;

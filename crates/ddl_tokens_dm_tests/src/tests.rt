@@ -1,4 +1,4 @@
-use crate::lexer::tokens;
+use ddl_tokens_dm::tokens;
 use std::test::Fail;
 
 #[test]

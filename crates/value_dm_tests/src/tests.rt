@@ -1,6 +1,6 @@
-use crate::*;
 use std::alloc::{AllocError, Global};
 use std::test::Fail;
+use value_dm::*;
 
 // The canonical form of what a field stands for, or a word for NULL and for what is refused.
 fn form_of(alloc: Global, kind: Kind, field: &str, mode: NullMode) -> Result<String, AllocError> {

@@ -1,4 +1,4 @@
-use crate::{Word, literal_type, naming_laws};
+use facts_dm::{Word, literal_type, naming_laws};
 use names_dm::{Base, LiteralType};
 use std::alloc::Global;
 use std::test::Fail;

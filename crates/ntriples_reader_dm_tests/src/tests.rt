@@ -1,6 +1,6 @@
-use crate::{GraphError, lawful_triple, one_meaning, read_graph, written_text};
 use names_dm::Triples;
 use ntriples_dm::triple_text;
+use ntriples_reader_dm::{GraphError, lawful_triple, one_meaning, read_graph, written_text};
 use std::alloc::Global;
 use std::test::Fail;
 

@@ -1,4 +1,4 @@
-use crate::{
+use names_dm::{
     Base, ColumnName, Iri, KeyPart, KeyParts, Label, Literal, LiteralType, RefName, RelName, Tag,
     Term, Triple, Triples, Var, Vars, column_iri, read_column_iri, read_ref_iri, read_rel_iri,
     read_table_iri, ref_iri, rel_iri, row_iri, row_label, safe, table_iri, unsafe_of, variable,

@@ -1,9 +1,9 @@
-use crate::{Database, Rows, RowsList, TableError, read_table, table_text};
 use schema_dm::{
     Column, Columns, Drafts, ForeignDrafts, NameLists, Schema, ShapeTable, Table, TableDraft,
 };
 use std::alloc::{AllocError, Global};
 use std::test::Fail;
+use table_csv::{Database, Rows, RowsList, TableError, read_table, table_text};
 use value_dm::{Cell, Cells, Kind, NullMode, Text, TryCopy, Value, lexical};
 
 // In the tables of this file `/` is LF, `%` CR, `^` a backslash, `'` a double quote and `#` the byte FF.

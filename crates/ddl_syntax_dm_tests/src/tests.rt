@@ -1,4 +1,4 @@
-use crate::file::read_statements;
+use ddl_syntax_dm::read_statements;
 use std::alloc::Global;
 use std::test::Fail;
 

@@ -1,4 +1,4 @@
-use crate::{
+use schema_dm::{
     Binary, Column, Columns, Drafts, ForeignDraft, ForeignDrafts, NameLists, Schema, SchemaCause,
     SchemaError, SchemaFault, Shape, ShapeTable, ShapeTables, TableDraft,
 };

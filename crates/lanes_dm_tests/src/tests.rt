@@ -1,6 +1,6 @@
 ghost use Rattle.std.specs.Prelude.{◌<◌, ◌≤◌};
 
-use crate::{
+use lanes_dm::{
     ByteClass, and_into, count_byte, first_of, has_zero, mask_eq, mask_ne, mask_nonzero, mask_same,
 };
 use std::process::Abort;

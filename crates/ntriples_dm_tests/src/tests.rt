@@ -1,5 +1,5 @@
-use crate::{term_text, triple_text, write_triple};
 use names_dm::{Iri, Label, Literal, LiteralType, Tag, Term, Triple};
+use ntriples_dm::{term_text, triple_text, write_triple};
 use outside_dm::{Cut, Cuts, MemorySink, NoFaultSink, PutError};
 use std::alloc::{AllocError, Global};
 use std::test::Fail;

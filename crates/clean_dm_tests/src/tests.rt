@@ -1,4 +1,4 @@
-use crate::{Removals, clean, kept};
+use clean_dm::{Removals, clean, kept};
 use schema_dm::{
     Column, Columns, Drafts, ForeignDraft, ForeignDrafts, NameLists, Schema, TableDraft,
 };

@@ -1,4 +1,4 @@
-use crate::{ViolationList, holds_all, violations};
+use keys_dm::{ViolationList, holds_all, violations};
 use schema_dm::{
     Column, Columns, Drafts, ForeignDraft, ForeignDrafts, NameLists, Schema, TableDraft,
 };
