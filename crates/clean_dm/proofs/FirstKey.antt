@@ -1,5 +1,5 @@
 -- The first foreign key of a row that dangles, and the first row that does.
-use Rattle.std.proofs.Common.{◌≡◌, ◌∙◌, ◌+◌, ◌<◌, ◌≤◌, ℕ, zero, suc, Bool, true, false, not, IsTrue, List, [], ◌∷◌, Some, None, length, refl, sym, ap, subst, inl, inr, arith}
+use Rattle.std.proofs.Common.{◌≡◌, ◌∙◌, ◌+◌, ◌<◌, ◌≤◌, ℕ, Bool, true, false, not, IsTrue, List, [], ◌∷◌, Some, None, length, refl, sym, ap, subst, inl, inr, arith}
 use Rattle.std.specs.Prelude.{◌↔◌, slice_get}
 use Rattle.std.proofs.lemmas.Bool.Decides.{eqb_tells}
 use Rattle.std.proofs.lemmas.Option.{slice_get_within}
@@ -7,7 +7,7 @@ use Rattle.members_dm.specs.Membership.{IsIn}
 use Rattle.members_dm.specs.Places.{IsEarlier}
 use Rattle.schema_dm.specs.Schemas.{table_at}
 use Rattle.schema_dm.specs.declared.table.ForeignKey.{ForeignKey}
-use Rattle.table_csv.specs.Cells.{Cell, Row, cells_at}
+use Rattle.table_csv.specs.Cells.{Row, cells_at}
 use Rattle.table_csv.specs.Databases.{Data, rows_at}
 use Rattle.keys_dm.specs.KeyCells.{AreRowsWith, row_at}
 use Rattle.clean_dm.specs.Parts.{DanglesIn}

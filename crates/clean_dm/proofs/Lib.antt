@@ -1,3 +1,5 @@
+mod CertificateParts
+mod CheckingLemmas
 mod DanglingSteps
 mod FirstKey
 mod KeptLoops
@@ -10,3 +12,4 @@ mod RepeatedSteps
 mod RowSetLemmas
 pub mod RowsLeft
 pub mod SomeCleaning
+mod TurnLemmas

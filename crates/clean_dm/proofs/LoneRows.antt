@@ -1,12 +1,12 @@
 -- Rows that share a key have gone, so a row that is left has its key alone.
-use Rattle.std.proofs.Common.{◌≡◌, ◌∙◌, ◌+◌, ◌<◌, ◌≤◌, ℕ, List, [], ◌∷◌, None, Some, map, length, refl, sym, subst, inl, inr, arith}
-use Rattle.std.specs.Prelude.{slice_get, slice_index_or}
+use Rattle.std.proofs.Common.{◌≡◌, ◌∙◌, ◌+◌, ◌<◌, ◌≤◌, ℕ, List, [], ◌∷◌, None, Some, length, refl, sym, subst, inl, inr, arith}
+use Rattle.std.specs.Prelude.{slice_get}
 use Rattle.std.proofs.lemmas.Bool.Decides.{eqb_tells}
 use Rattle.members_dm.specs.Membership.{IsIn}
 use Rattle.members_dm.proofs.ElementsLemmas.{index_of_item}
 use Rattle.schema_dm.specs.Schemas.{IsForeignKey, IsUniqueKey, table_at}
 use Rattle.schema_dm.specs.declared.table.ForeignKey.{ForeignKey}
-use Rattle.table_csv.specs.Cells.{Cell, Row, cells_at}
+use Rattle.table_csv.specs.Cells.{Cell, cells_at}
 use Rattle.table_csv.specs.Databases.{Data, rows_at}
 use Rattle.keys_dm.specs.KeyCells.{AreRowsWith, IsRowWith, row_at}
 use Rattle.keys_dm.specs.Violations.{IsRepeated}

@@ -67,7 +67,7 @@ module _ {X : Type 0} where
 
 -- ---- the first violation of a row that is left
 
-own_breaks : (D : Data) (IsInPart : ℕ → ℕ → Type 0) (t i : ℕ) (kind : ViolationKind) → turn_of kind ≡ 0 → Violates D t i kind → BreaksIn IsInPart D t i kind
+pub own_breaks : (D : Data) (IsInPart : ℕ → ℕ → Type 0) (t i : ℕ) (kind : ViolationKind) → turn_of kind ≡ 0 → Violates D t i kind → BreaksIn IsInPart D t i kind
 own_breaks D IsInPart t i NullKey own h = h
 own_breaks D IsInPart t i RepeatedKey own h = h
 own_breaks D IsInPart t i (RepeatedUnique number) own h = h

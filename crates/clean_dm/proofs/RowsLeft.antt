@@ -1,10 +1,9 @@
 -- A part of a database has one list of rows for each table, which its columns allow.
-use Rattle.std.proofs.Common.{◌≡◌, ◌∙◌, ◌+◌, ◌-◌, ◌<◌, ◌≤◌, ℕ, zero, suc, Bool, true, false, List, [], ◌∷◌, ◌++◌, refl, sym, ap, subst, inl, inr, arith, length, get_or}
-use Rattle.std.specs.Prelude.{◌↔◌, All}
+use Rattle.std.proofs.Common.{◌≡◌, ◌∙◌, ◌+◌, ◌<◌, ◌≤◌, ℕ, zero, suc, Bool, true, false, List, [], ◌∷◌, ◌++◌, refl, sym, ap, subst, inl, inr, arith, length, get_or}
+use Rattle.std.specs.Prelude.{◌↔◌}
 use Rattle.std.specs.List.{AllZip}
 use Rattle.std.proofs.lemmas.List.{length-append}
 use Rattle.std.proofs.lemmas.Bool.Decides.{eqb_tells}
-use Rattle.std.proofs.lemmas.List.Elements.{All-get_or}
 use Rattle.members_dm.specs.Membership.{IsIn, IsRising}
 use Rattle.members_dm.specs.Places.{IsEarlier, IsListing, Place, StandsEarlier}
 use Rattle.members_dm.proofs.PlacesLemmas.{listing_unique}

@@ -69,7 +69,8 @@ fn remove_dangling(
     Ok(())
 }
 
-fn is_dangling(kind: ViolationKind) -> bool
+/// Whether the reason is a foreign key.
+pub fn is_dangling(kind: ViolationKind) -> bool
     ensures { IsTrue result ↔ (turn_of kind ≡ 1) }
 {
     matches!(kind, ViolationKind::Dangling(_))

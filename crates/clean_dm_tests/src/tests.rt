@@ -1,4 +1,5 @@
-use clean_dm::{Removals, clean, kept};
+use clean_dm::{Removal, Removals, check_removals, clean, kept};
+use keys_dm::ViolationKind;
 use schema_dm::{
     Column, Columns, Drafts, ForeignDraft, ForeignDrafts, NameLists, Schema, TableDraft,
 };
@@ -188,6 +189,80 @@ fn databases_are_cleaned(rt: HostRuntime) -> Result<(), Fail> {
         let (tables, rest) = line.split_once('|').ok_or("no rows")?;
         let (rows, want) = rest.split_once('|').ok_or("no removals")?;
         assert_eq!(rt; told(alloc, tables, rows)?.as_str(), want, "at {line}");
+    }
+    Ok(())
+}
+
+// Of a database whose rows 3 and 4 go, row 3 for its key and then row 4 since row 3 is gone: lists of removals, and whether each is a
+// certificate.
+const CERTIFICATES: [(&[(u64, u64, ViolationKind)], bool); 8] = [
+    (
+        &[
+            (1, 3, ViolationKind::Dangling(1)),
+            (1, 4, ViolationKind::Dangling(1)),
+        ],
+        true,
+    ),
+    (&[(1, 4, ViolationKind::Dangling(1))], false),
+    (&[(1, 3, ViolationKind::Dangling(1))], false),
+    (
+        &[
+            (1, 4, ViolationKind::Dangling(1)),
+            (1, 3, ViolationKind::Dangling(1)),
+        ],
+        false,
+    ),
+    (
+        &[
+            (1, 3, ViolationKind::Dangling(1)),
+            (1, 4, ViolationKind::Dangling(2)),
+        ],
+        false,
+    ),
+    (
+        &[
+            (1, 3, ViolationKind::Dangling(1)),
+            (1, 4, ViolationKind::Dangling(1)),
+            (1, 4, ViolationKind::Dangling(1)),
+        ],
+        false,
+    ),
+    (
+        &[
+            (1, 3, ViolationKind::Dangling(1)),
+            (1, 4, ViolationKind::Dangling(1)),
+            (1, 5, ViolationKind::RepeatedKey),
+        ],
+        false,
+    ),
+    (
+        &[
+            (1, 3, ViolationKind::Dangling(1)),
+            (1, 4, ViolationKind::Dangling(1)),
+            (1, 8, ViolationKind::NullKey),
+        ],
+        false,
+    ),
+];
+
+fn is_certificate(
+    alloc: Global,
+    database: &Database,
+    list: &[(u64, u64, ViolationKind)],
+) -> Result<bool, AllocError> {
+    let mut removals = Removals::new(alloc);
+    for &(table, row, kind) in list {
+        removals.push(Removal { table, row, kind })?;
+    }
+    check_removals(alloc, database, &removals)
+}
+
+#[test]
+fn certificates_are_told(rt: HostRuntime) -> Result<(), Fail> {
+    let alloc = rt.alloc();
+    let database = database_of(alloc, "E id boss !id >boss:E", "1,- 2,1 3,9 4,3 5,5 6,7 7,6")?;
+    for (list, wanted) in CERTIFICATES {
+        assert!(rt; is_certificate(alloc, &database, list)? == wanted);
     }
     Ok(())
 }

@@ -1,4 +1,4 @@
-use Rattle.std.proofs.Common.{◌≡◌, ◌∙◌, ap, subst, sym, List}
+use Rattle.std.proofs.Common.{◌≡◌, ◌∙◌, ap, subst, List}
 use Rattle.table_csv.specs.Cells.{Row, cells_at}
 use Rattle.table_csv.specs.Databases.{rows_at}
 use Rattle.keys_dm.specs.Entries.{positions_of}
