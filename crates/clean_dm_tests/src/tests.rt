@@ -260,7 +260,11 @@ fn is_certificate(
 #[test]
 fn certificates_are_told(rt: HostRuntime) -> Result<(), Fail> {
     let alloc = rt.alloc();
-    let database = database_of(alloc, "E id boss !id >boss:E", "1,- 2,1 3,9 4,3 5,5 6,7 7,6")?;
+    let database = database_of(
+        alloc,
+        "E id boss !id >boss:E",
+        "1,- 2,1 3,9 4,3 5,5 6,7 7,6",
+    )?;
     for (list, wanted) in CERTIFICATES {
         assert!(rt; is_certificate(alloc, &database, list)? == wanted);
     }

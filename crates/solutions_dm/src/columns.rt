@@ -3,13 +3,23 @@ ghost use Rattle.solutions_dm.specs.Columns as spec;
 ghost use Rattle.solutions_dm.specs.Columns.{HaveRows, IsColumnOf, compatible};
 
 use names_dm::Var;
-use value_dm::{Sequence, same};
+use std::alloc::{AllocError, Global};
+use value_dm::{Sequence, TryCopy, same};
 
 /// The numbers of a variable, one for each row, where 0 is unbound.
 #[derive(Drop)]
 pub struct Column {
     pub name: Var,
     pub numbers: Sequence<u32>,
+}
+
+impl TryCopy for Column {
+    fn copy(&self, alloc: Global) -> Result<Column, AllocError> {
+        Ok(Column {
+            name: self.name.copy(alloc)?,
+            numbers: self.numbers.copy(alloc)?,
+        })
+    }
 }
 
 // The number of a variable in a row, 0 where it has no column.

@@ -18,6 +18,15 @@ pub struct Rename {
     pub to: Var,
 }
 
+impl TryCopy for Rename {
+    fn copy(&self, alloc: Global) -> Result<Rename, AllocError> {
+        Ok(Rename {
+            from: self.from.copy(alloc)?,
+            to: self.to.copy(alloc)?,
+        })
+    }
+}
+
 /// Renames in order.
 pub type Renames = Sequence<Rename>;
 

@@ -60,7 +60,8 @@ impl Solutions {
 
 /// One row that binds nothing.
 pub fn unit(alloc: Global) -> Result<Solutions, AllocError>
-    ensures { IfOk result (λ s. (m : List ℕ → ℕ) → HasRow s m ↔ ((x : List ℕ) → m x ≡ 0)) }
+    ensures one { IfOk result (λ s. s.rows ≡ 1) }
+    ensures unbound { IfOk result (λ s. (m : List ℕ → ℕ) → HasRow s m ↔ ((x : List ℕ) → m x ≡ 0)) }
 {
     Ok(Solutions {
         columns: Sequence::new(alloc),

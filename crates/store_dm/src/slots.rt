@@ -2,7 +2,8 @@ ghost use Rattle.std.specs.Prelude.{◌≡◌, ◌||◌, ◌&&◌};
 ghost use Rattle.store_dm.specs.Slots as spec;
 
 use names_dm::Var;
-use value_dm::same;
+use std::alloc::{AllocError, Global};
+use value_dm::{TryCopy, same};
 
 /// A part of a triple to look for: a variable, the number of a term, or a term that the graph hasn't.
 #[derive(Drop)]
@@ -10,6 +11,16 @@ pub enum Slot {
     Var(Var),
     Fixed(u32),
     Missing,
+}
+
+impl TryCopy for Slot {
+    fn copy(&self, alloc: Global) -> Result<Slot, AllocError> {
+        match self {
+            Slot::Var(name) => Ok(Slot::Var(name.copy(alloc)?)),
+            Slot::Fixed(number) => Ok(Slot::Fixed(*number)),
+            Slot::Missing => Ok(Slot::Missing),
+        }
+    }
 }
 
 pub fn is_missing(slot: &Slot) -> bool

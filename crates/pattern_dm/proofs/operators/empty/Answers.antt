@@ -12,5 +12,5 @@ pub returns : goal.returns
 returns c =
     let rows = c.in_ok-rows.rows in
     IfOk-weaker c.distinct.result (λ (s : Table). IsDistinct rows s) (λ (s : Table). (terms : List Term) → IsOutcome terms (λ m. (x : List ℕ) → m x ≡ None) s)
-    (λ s d terms. distinct_outcome terms (λ m. (x : List ℕ) → m x ≡ None) rows s d (unit_exact terms rows c.in_ok-rows.ensures) (unit_numbers terms rows c.in_ok-rows.ensures))
+    (λ s d terms. distinct_outcome terms (λ m. (x : List ℕ) → m x ≡ None) rows s d (unit_exact terms rows c.in_ok-rows.ensures.unbound) (unit_numbers terms rows c.in_ok-rows.ensures.unbound))
     c.distinct.ensures
