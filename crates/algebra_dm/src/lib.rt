@@ -1,0 +1,16 @@
+//! The algebra over tables: queries, when they are well-formed, which attributes and tuples they have, and which
+//! attributes are never NULL.
+#![tactic(auto)]
+
+mod columns;
+mod error;
+mod known;
+mod name_lists;
+mod operators;
+mod query;
+mod recall;
+
+pub use columns::{column_names, table_names};
+pub use error::QueryError;
+pub use query::{Mode, Query};
+pub use recall::{attributes, certain, check_query};
