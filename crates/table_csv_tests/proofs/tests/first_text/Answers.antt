@@ -6,7 +6,7 @@ use Rattle.schema_dm.specs.declared.draft.Column.{Column}
 use Rattle.schema_dm.specs.declared.table.Table.{Table}
 use Rattle.table_csv.specs.CanonicalText.{AreTextColumns}
 use Rattle.table_csv.proofs.Databases.{text_columns}
-use Rattle.table_csv.proofs.tests.first_text.Goals as goal
+use Rattle.table_csv_tests.proofs.tests.first_text.Goals as goal
 
 pub table_text-requires-clause-columns : goal.table_text-requires-clause-columns
 table_text-requires-clause-columns c =
