@@ -31,6 +31,13 @@ impl Dictionary {
         }
     }
 
+    /// How many terms there are.
+    pub fn len(&self) -> usize
+        ensures { result ≡ length self.now }
+    {
+        self.terms.len()
+    }
+
     /// The number of a term, which is added where it is new.
     pub fn number(&mut self, term: Term) -> Result<u32, AllocFailed<Term>>
         requires { length self.old < 2 ^ 32 - 1 }

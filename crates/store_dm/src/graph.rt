@@ -54,6 +54,13 @@ impl Graph {
         self.by_subject.len()
     }
 
+    /// How many terms there are. Their numbers are those from 1 to it.
+    pub fn term_count(&self) -> usize
+        ensures { result ≡ length self.now.terms }
+    {
+        self.terms.len()
+    }
+
     /// The number of a term, None exactly where no triple holds it.
     pub fn id_of(&self, term: &Term) -> Option<u32>
         ensures number { IfSome result (λ n. term_at self.now.terms n ≡ Some term.now) }
