@@ -1,0 +1,9 @@
+pub mod ColumnLemmas
+pub mod Explaining
+pub mod LinkLemmas
+pub mod MeaningLemmas
+pub mod NameLemmas
+pub mod NumberLemmas
+pub mod Passing
+pub mod RelationLemmas
+pub mod RoleLemmas

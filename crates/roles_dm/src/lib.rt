@@ -1,0 +1,17 @@
+//! What a graph of a relational database says of each of its terms.
+#![tactic(auto)]
+
+mod columns;
+mod links;
+mod naming;
+mod numbers;
+mod relations;
+mod role;
+mod roles;
+mod words;
+
+pub use numbers::{graph_of, has, number_of, only_object};
+pub use relations::{Relations, relations_of, stated_relation};
+pub use role::{ColumnRole, LinkName, LinkRole, Role, Roles};
+pub use roles::{role_of, roles_of};
+pub use words::{Datatypes, Words, datatypes_of, words_of};

@@ -1,0 +1,77 @@
+// A graph of numbers, and what is looked up in it.
+ghost use Rattle.std.specs.Prelude.{◌≡◌, ◌↔◌, ◌≤◌, IfOk, IsTrue, List, length};
+ghost use Rattle.names_dm.specs.Statements.{Statement};
+ghost use Rattle.roles_dm.specs.Numbers.{HasNumbers, IsGraphOf, IsNumberOf, TellsOnly};
+
+use names_dm::{Term, Triple, Triples};
+use std::alloc::{AllocError, Global};
+use store_dm::Graph;
+use value_dm::TryCopy;
+
+// The triples again.
+fn copies(alloc: Global, triples: &[Triple]) -> Result<Triples, AllocError>
+    ensures { IfOk result (λ made. made ≡ triples.now) }
+{
+    let mut made = Triples::new(alloc);
+    for triple in triples {
+        made.push(triple.copy(alloc)?)?;
+    }
+    Ok(made)
+}
+
+/// The graph of the triples, with a number for each term.
+pub fn graph_of(alloc: Global, triples: &[Triple]) -> Result<Graph, AllocError>
+    requires { length triples.now ≤ 16777216 }
+    ensures { IfOk result (λ graph. IsGraphOf graph triples.now) }
+{
+    let graph = Graph::build(alloc, copies(alloc, triples)?)?;
+    let _count = graph.len();
+    Ok(graph)
+}
+
+/// The last number of a term, which is how many there are. Refused where it fits no u32, as that of no graph does.
+pub fn last_number(graph: &Graph) -> Result<u32, AllocError>
+    ensures { IfOk result (λ last. last ≡ length graph.now.terms) }
+{
+    let count = graph.term_count();
+    if count > u32::MAX as usize {
+        return Err(AllocError);
+    }
+    Ok(count as u32)
+}
+
+/// The number of the term, 0 where no triple holds it.
+pub fn number_of(graph: &Graph, term: &Term) -> u32
+    ensures { IsNumberOf graph.now term.now result }
+{
+    match graph.id_of(term) {
+        Some(number) => number,
+        None => 0,
+    }
+}
+
+/// Whether the graph has the triple of these numbers.
+pub fn has(graph: &Graph, subject: u32, predicate: u32, object: u32) -> bool
+    ensures { IsTrue result ↔ HasNumbers graph.now subject predicate object }
+{
+    if subject == 0 || predicate == 0 || object == 0 {
+        return false;
+    }
+    graph.find(subject, predicate, object).next().is_some()
+}
+
+/// The one object that the subject has with the predicate; None where it has none, or several.
+pub fn only_object(graph: &Graph, subject: u32, predicate: u32) -> Option<u32>
+    ensures { TellsOnly graph.now subject predicate result }
+{
+    let _count = graph.len();
+    if subject == 0 || predicate == 0 {
+        return None;
+    }
+    let mut found = graph.find(subject, predicate, 0);
+    let (_, _, object) = found.next()?;
+    match found.next() {
+        None => Some(object),
+        Some(_) => None,
+    }
+}
