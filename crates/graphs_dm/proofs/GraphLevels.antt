@@ -1,10 +1,12 @@
 -- The levels of a graph are exactly its facts in order, and its text is one.
-use Rattle.std.proofs.Common.{◌≡◌, ◌∙◌, ◌<◌, ◌++◌, ℕ, suc, zero, List, [], ◌∷◌, length, map, Option, Some, None, refl, sym, ap, subst, inl, inr, arith, Result, Err}
+use Rattle.std.proofs.Common.{◌≡◌, ◌∙◌, ◌<◌, ◌≤◌, ◌++◌, ℕ, suc, zero, Bool, true, false, List, [], ◌∷◌, length, map, Option, Some, None, refl, sym, ap, subst, inl, inr, arith, Result, Err}
+use Rattle.std.specs.Prelude.{if◌then◌else◌, nat_lt}
 use Rattle.std.specs.List.{flat_map}
+use Rattle.std.proofs.lemmas.Bool.Decides.{Decides-ltb, nat_tests, not_from_Decides}
 use Rattle.members_dm.specs.Membership.{IsIn, IsRising}
-use Rattle.members_dm.specs.Places.{Place, IsListing, StandsEarlier, items_of}
+use Rattle.members_dm.specs.Places.{Place, IsListing, StandsEarlier, items_of, under}
 use Rattle.members_dm.proofs.MembershipLemmas.{IsIn-map, map-IsIn}
-use Rattle.members_dm.proofs.PlacesLemmas.{IsIn-levels, levels-IsIn, listing_unique, rising-levels}
+use Rattle.members_dm.proofs.PlacesLemmas.{IsIn-levels, IsIn-under, levels-IsIn, listing_unique, rising-levels, rising-under, under-IsIn}
 use Rattle.schema_dm.specs.declared.table.Binary.{Binary}
 use Rattle.schema_dm.proofs.OneRelation.{sides_unique}
 use Rattle.names_dm.specs.Statements.{Statement}
@@ -16,15 +18,15 @@ use Rattle.keys_dm.specs.Kept.{HasMatches}
 use Rattle.keys_dm.specs.Violations.{KeepsKeys, Violates}
 use Rattle.keys_dm.specs.declared.violation.ViolationKind.{ViolationKind}
 use Rattle.keys_dm.proofs.OneMatch.{kept_matches}
-use Rattle.graphs_dm.specs.Graphs.{GraphRowStandsAt, HasItsTriples, HasOntology, IsDefined, IsGraphText, MarksViolatingRows, MarksViolations, PutsGraph, StandsAt, of_ontology, of_row, row_mark, row_of_class, row_of_relation}
-use Rattle.graphs_dm.specs.Levels.{any_row_level, graph_level, graph_part, ontology_level, ontology_table, relation_row_level, table_level, tables_level, text_of}
+use Rattle.graphs_dm.specs.Graphs.{GraphRowStandsAt, HasItsTriples, HasOntology, IsDefined, IsGraphText, IsLaterRowsText, LaterRowStandsAt, MarksViolatingRows, MarksViolations, PutsGraph, PutsLaterRows, StandsAt, first_row, of_later_row, of_ontology, of_row, row_mark, row_of_class, row_of_relation}
+use Rattle.graphs_dm.specs.Levels.{Placed, any_row_level, from_first, graph_level, graph_part, ontology_level, ontology_table, relation_row_level, table_level, tables_level, text_of}
 use Rattle.graphs_dm.specs.Nodes.{row_node}
 use Rattle.graphs_dm.specs.Ontology.{OntologyStandsAt, column_domain, column_property, column_range, of_class, of_column, of_reference, of_relation, reference_domain, reference_property, reference_range}
 use Rattle.outside_dm.specs.Putting.{Writes}
 use Rattle.outside_dm.specs.Sinks.{SinkState}
 use Rattle.outside_dm.specs.declared.sink.PutError.{PutError}
 use Rattle.outside_dm.specs.declared.sink.PutError.TheVariants.{Memory}
-use Rattle.graphs_dm.proofs.LevelTexts.{text_of-level, text_of-no_level, text_of-none, writes_short}
+use Rattle.graphs_dm.proofs.LevelTexts.{text_of-level, text_of-no_level, text_of-none, text_of-under, writes_short}
 use Rattle.graphs_dm.proofs.SomePlan.{some_plan}
 use Rattle.graphs_dm.specs.OwnNodes.{HasRow}
 use Rattle.graphs_dm.specs.Plans.{IsChoice, IsPlanOf, relation_at}
@@ -38,6 +40,35 @@ use Rattle.graphs_dm.proofs.OntologyLevels.{IsIn-ontology, ontology-IsIn, rising
 use Rattle.graphs_dm.proofs.PlanSteps.{binary_of}
 use Rattle.graphs_dm.proofs.RelationRows.{IsIn-pair, first_references, left_among, pair-IsIn, references_first, right_among, rising-pair}
 use Rattle.graphs_dm.proofs.RowLevels.{IsIn-row, marked-IsIn, rising-row, row-IsIn}
+
+-- ---- the rows from the first one on that counts
+
+module _ (first : ℕ) (level : ℕ → Placed) (i : ℕ) where
+  IsIn-from : (p : Place) (x : Fact) → IsIn {X = Place × Fact} (p, x) (from_first first level i) → (first ≤ i) × IsIn {X = Place × Fact} (p, x) (level i)
+  IsIn-from p x h = by (nat_lt i first) refl h
+    where
+      by : (t : Bool) → nat_lt i first ≡ t → IsIn {X = Place × Fact} (p, x) (if t then [] else level i) → (first ≤ i) × IsIn {X = Place × Fact} (p, x) (level i)
+      by true is h = absurd h
+      by false is h = (grind (arith, nat_tests), h)
+
+  from-IsIn : (p : Place) (x : Fact) → first ≤ i → IsIn {X = Place × Fact} (p, x) (level i) → IsIn {X = Place × Fact} (p, x) (from_first first level i)
+  from-IsIn p x later h = by (nat_lt i first) refl
+    where
+      by : (t : Bool) → nat_lt i first ≡ t → IsIn {X = Place × Fact} (p, x) (if t then [] else level i)
+      by true is = absurd (grind (arith, nat_tests))
+      by false is = h
+
+  rising-from : IsRising {X = Place × Fact} StandsEarlier (level i) → IsRising {X = Place × Fact} StandsEarlier (from_first first level i)
+  rising-from h = by (nat_lt i first)
+    where
+      by : (t : Bool) → IsRising {X = Place × Fact} StandsEarlier (if t then [] else level i)
+      by true = tt
+      by false = h
+
+-- the lines don't tell at which places their facts stand
+lines_under : (base : List ℕ) (placed : Placed) → flat_map (line_of base) (items_of (under 1 placed)) ≡ text_of base placed
+unfolding text_of
+lines_under base placed = text_of-under base 1 placed
 
 kept_by : (name : GraphName) (D : Data) (t : ℕ) (sides : Binary) → IsDefined name D → CountsAsRelation name D.tables t sides → KeepsKeys D
 kept_by Map D t sides defined h = defined
@@ -93,23 +124,54 @@ module _ (name : GraphName) (base : List ℕ) (D : Data) (database : (t : ℕ) (
 
     -- ---- the parts
 
-    IsIn-tables : (p : Place) (x : Fact) → IsIn {X = Place × Fact} (p, x) (tables_level base D plan) → StandsAt name base D (1 ∷ p) x
-    IsIn-tables p x h =
-        let table = IsIn-levels (length D.tables) (table_level base D plan) p x h in
-        let row = IsIn-levels (length (rows_at D.rows table.0)) (any_row_level base D plan table.0 (relation_at plan table.0)) table.2.0 x table.2.2 in
-        let has : HasRow D table.0 row.0 = record { table = table.1; row = row.1 } in
-        of_row table.0 row.0 row.2.0 has (ap (λ q. 1 ∷ q) (table.2.1 ∙ ap (λ q. table.0 ∷ q) row.2.1))
-        (IsIn-any table.0 row.0 has (relation_at plan table.0) (is.relations.each table.0 table.1) row.2.0 x row.2.2)
+    module _ (firsts : List ℕ) where
+      pub IsIn-tables : (p : Place) (x : Fact) → IsIn {X = Place × Fact} (p, x) (tables_level base D plan firsts) → LaterRowStandsAt name base D firsts (1 ∷ p) x
+      IsIn-tables p x h =
+          let table = IsIn-levels (length D.tables) (table_level base D plan firsts) p x h in
+          let row = IsIn-levels (length (rows_at D.rows table.0)) (from_first (first_row firsts table.0) (any_row_level base D plan table.0 (relation_at plan table.0))) table.2.0 x table.2.2 in
+          let later = IsIn-from (first_row firsts table.0) (any_row_level base D plan table.0 (relation_at plan table.0)) row.0 row.2.0 x row.2.2 in
+          let has : HasRow D table.0 row.0 = record { table = table.1; row = row.1 } in
+          of_later_row table.0 row.0 row.2.0 has later.0 (ap (λ q. 1 ∷ q) (table.2.1 ∙ ap (λ q. table.0 ∷ q) row.2.1))
+          (IsIn-any table.0 row.0 has (relation_at plan table.0) (is.relations.each table.0 table.1) row.2.0 x later.1)
 
-    tables-IsIn : (t i : ℕ) (rest : Place) (x : Fact) → HasRow D t i → GraphRowStandsAt name base D t i rest x → IsIn {X = Place × Fact} (t ∷ i ∷ rest, x) (tables_level base D plan)
-    tables-IsIn t i rest x has stands =
-        levels-IsIn (length D.tables) (table_level base D plan) t (i ∷ rest) x has.table
-        (levels-IsIn (length (rows_at D.rows t)) (any_row_level base D plan t (relation_at plan t)) i rest x has.row (any-IsIn t i has (relation_at plan t) (is.relations.each t has.table) rest x stands))
+      pub tables-IsIn : (t i : ℕ) (rest : Place) (x : Fact) → HasRow D t i → first_row firsts t ≤ i → GraphRowStandsAt name base D t i rest x → IsIn {X = Place × Fact} (t ∷ i ∷ rest, x) (tables_level base D plan firsts)
+      tables-IsIn t i rest x has later stands =
+          levels-IsIn (length D.tables) (table_level base D plan firsts) t (i ∷ rest) x has.table
+          (levels-IsIn (length (rows_at D.rows t)) (from_first (first_row firsts t) (any_row_level base D plan t (relation_at plan t))) i rest x has.row
+          (from-IsIn (first_row firsts t) (any_row_level base D plan t (relation_at plan t)) i rest x later (any-IsIn t i has (relation_at plan t) (is.relations.each t has.table) rest x stands)))
 
-    rising-tables : IsRising {X = Place × Fact} StandsEarlier (tables_level base D plan)
-    rising-tables =
-        rising-levels (length D.tables) (table_level base D plan)
-        (λ t. rising-levels (length (rows_at D.rows t)) (any_row_level base D plan t (relation_at plan t)) (rising-any t (relation_at plan t)))
+      pub rising-tables : IsRising {X = Place × Fact} StandsEarlier (tables_level base D plan firsts)
+      rising-tables =
+          rising-levels (length D.tables) (table_level base D plan firsts)
+          (λ t. rising-levels (length (rows_at D.rows t)) (from_first (first_row firsts t) (any_row_level base D plan t (relation_at plan t)))
+          (λ i. rising-from (first_row firsts t) (any_row_level base D plan t (relation_at plan t)) i (rising-any t (relation_at plan t) i)))
+
+      later_listing : IsListing (LaterRowStandsAt name base D firsts) (items_of (under 1 (tables_level base D plan firsts)))
+      unfolding items_of
+      later_listing = record {
+        placed = under 1 (tables_level base D plan firsts);
+        rising = rising-under 1 (tables_level base D plan firsts) rising-tables;
+        exact = λ p x. (there p x, back p x);
+        items = refl;
+      }
+        where
+          there : (p : Place) (x : Fact) → IsIn {X = Place × Fact} (p, x) (under 1 (tables_level base D plan firsts)) → LaterRowStandsAt name base D firsts p x
+          there p x h =
+              let inner = IsIn-under 1 (tables_level base D plan firsts) p x h in
+              subst (λ (q : Place). LaterRowStandsAt name base D firsts q x) (sym inner.1) (IsIn-tables inner.0 x inner.2)
+
+          back : (p : Place) (x : Fact) → LaterRowStandsAt name base D firsts p x → IsIn {X = Place × Fact} (p, x) (under 1 (tables_level base D plan firsts))
+          back p x (of_later_row t i rest has later at stands) =
+              subst (λ (q : Place). IsIn {X = Place × Fact} (q, x) (under 1 (tables_level base D plan firsts))) (sym at)
+              (under-IsIn 1 (tables_level base D plan firsts) (t ∷ i ∷ rest) x (tables-IsIn t i rest x has later stands))
+
+      -- the text of the levels is that of the later rows
+      pub later_text : IsLaterRowsText name base D firsts (text_of base (tables_level base D plan firsts))
+      later_text = record { facts = items_of (under 1 (tables_level base D plan firsts)); listing = later_listing; lines = sym (lines_under base (tables_level base D plan firsts)) }
+
+    -- with no first row told, all rows are later ones
+    of_all : (p : Place) (x : Fact) → LaterRowStandsAt name base D [] p x → StandsAt name base D p x
+    of_all p x (of_later_row t i rest has later at stands) = of_row t i rest has at stands
 
     IsIn-ontology_part : HasOntology name → (p : Place) (x : Fact) → IsIn {X = Place × Fact} (p, x) (ontology_level base D plan) → StandsAt name base D (0 ∷ p) x
     IsIn-ontology_part has p x h =
@@ -130,18 +192,18 @@ rising-part : (name : GraphName) (base : List ℕ) (D : Data) (database : (t : �
 rising-part Direct base D database defined plan is zero = tt
 rising-part Map base D database defined plan is zero = rising-ontology_part Map base D database defined plan is
 rising-part MapKeys base D database defined plan is zero = rising-ontology_part MapKeys base D database defined plan is
-rising-part Direct base D database defined plan is (suc n) = rising-tables Direct base D database defined plan is
-rising-part Map base D database defined plan is (suc n) = rising-tables Map base D database defined plan is
-rising-part MapKeys base D database defined plan is (suc n) = rising-tables MapKeys base D database defined plan is
+rising-part Direct base D database defined plan is (suc n) = rising-tables Direct base D database defined plan is []
+rising-part Map base D database defined plan is (suc n) = rising-tables Map base D database defined plan is []
+rising-part MapKeys base D database defined plan is (suc n) = rising-tables MapKeys base D database defined plan is []
 
 IsIn-part : (name : GraphName) (base : List ℕ) (D : Data) (database : (t : ℕ) (sides : Binary) → CountsAsRelation name D.tables t sides → IsDatabase D) (defined : IsDefined name D) (plan : Plan) (is : IsPlanOf name D plan) (k : ℕ) → k < 2 → (p : Place) (x : Fact)
     → IsIn {X = Place × Fact} (p, x) (graph_part name base D plan k) → StandsAt name base D (k ∷ p) x
 IsIn-part Direct base D database defined plan is zero below p x h = absurd h
 IsIn-part Map base D database defined plan is zero below p x h = IsIn-ontology_part Map base D database defined plan is tt p x h
 IsIn-part MapKeys base D database defined plan is zero below p x h = IsIn-ontology_part MapKeys base D database defined plan is tt p x h
-IsIn-part Direct base D database defined plan is (suc zero) below p x h = IsIn-tables Direct base D database defined plan is p x h
-IsIn-part Map base D database defined plan is (suc zero) below p x h = IsIn-tables Map base D database defined plan is p x h
-IsIn-part MapKeys base D database defined plan is (suc zero) below p x h = IsIn-tables MapKeys base D database defined plan is p x h
+IsIn-part Direct base D database defined plan is (suc zero) below p x h = of_all Direct base D database defined plan is (1 ∷ p) x (IsIn-tables Direct base D database defined plan is [] p x h)
+IsIn-part Map base D database defined plan is (suc zero) below p x h = of_all Map base D database defined plan is (1 ∷ p) x (IsIn-tables Map base D database defined plan is [] p x h)
+IsIn-part MapKeys base D database defined plan is (suc zero) below p x h = of_all MapKeys base D database defined plan is (1 ∷ p) x (IsIn-tables MapKeys base D database defined plan is [] p x h)
 IsIn-part name base D database defined plan is (suc (suc n)) below p x h = absurd (omega arith)
 
 ontology-in : (name : GraphName) (base : List ℕ) (D : Data) (plan : Plan) → HasOntology name → (a : Place × Fact) → IsIn {X = Place × Fact} a (ontology_level base D plan) → IsIn {X = Place × Fact} a (graph_part name base D plan 0)
@@ -149,7 +211,7 @@ ontology-in Direct base D plan has a h = absurd has
 ontology-in Map base D plan has a h = h
 ontology-in MapKeys base D plan has a h = h
 
-tables-in : (name : GraphName) (base : List ℕ) (D : Data) (plan : Plan) (a : Place × Fact) → IsIn {X = Place × Fact} a (tables_level base D plan) → IsIn {X = Place × Fact} a (graph_part name base D plan 1)
+tables-in : (name : GraphName) (base : List ℕ) (D : Data) (plan : Plan) (a : Place × Fact) → IsIn {X = Place × Fact} a (tables_level base D plan []) → IsIn {X = Place × Fact} a (graph_part name base D plan 1)
 tables-in Direct base D plan a h = h
 tables-in Map base D plan a h = h
 tables-in MapKeys base D plan a h = h
@@ -166,7 +228,7 @@ module _ (name : GraphName) (base : List ℕ) (D : Data) (database : (t : ℕ) (
       (levels-IsIn 2 (graph_part name base D plan) 0 (t ∷ rest) x (omega arith) (ontology-in name base D plan has (t ∷ rest, x) (ontology_part-IsIn name base D database defined plan is t rest x below stands)))
   graph-IsIn p x (of_row t i rest has at stands) =
       subst (λ (q : Place). IsIn {X = Place × Fact} (q, x) (graph_level name base D plan)) (sym at)
-      (levels-IsIn 2 (graph_part name base D plan) 1 (t ∷ i ∷ rest) x (omega arith) (tables-in name base D plan (t ∷ i ∷ rest, x) (tables-IsIn name base D database defined plan is t i rest x has stands)))
+      (levels-IsIn 2 (graph_part name base D plan) 1 (t ∷ i ∷ rest) x (omega arith) (tables-in name base D plan (t ∷ i ∷ rest, x) (tables-IsIn name base D database defined plan is [] t i rest x has (omega arith) stands)))
 
   graph_listing : IsListing (StandsAt name base D) (items_of (graph_level name base D plan))
   unfolding items_of
@@ -211,7 +273,7 @@ its_triples name base D text is = record {
 
 -- ---- what was put
 
-text_of-parts : (name : GraphName) (base : List ℕ) (D : Data) (plan : Plan) → text_of base (graph_part name base D plan 1) ≡ text_of base (tables_level base D plan)
+text_of-parts : (name : GraphName) (base : List ℕ) (D : Data) (plan : Plan) → text_of base (graph_part name base D plan 1) ≡ text_of base (tables_level base D plan [])
 text_of-parts Direct base D plan = refl
 text_of-parts Map base D plan = refl
 text_of-parts MapKeys base D plan = refl
@@ -221,7 +283,7 @@ pub direct_part : (name : GraphName) → name ≡ Direct → (base : List ℕ) (
 direct_part name is base D plan = subst (λ (n : GraphName). [] ≡ text_of base (graph_part n base D plan 0)) (sym is) (sym (text_of-none base))
 
 -- the text of the first part, and then of all rows
-pub two_parts : (name : GraphName) (base : List ℕ) (D : Data) (plan : Plan) → text_of base (graph_part name base D plan 0) ++ text_of base (tables_level base D plan) ≡ text_of base (graph_level name base D plan)
+pub two_parts : (name : GraphName) (base : List ℕ) (D : Data) (plan : Plan) → text_of base (graph_part name base D plan 0) ++ text_of base (tables_level base D plan []) ≡ text_of base (graph_level name base D plan)
 two_parts name base D plan =
     let level = graph_part name base D plan in
     ap (λ (l : List ℕ). text_of base (level 0) ++ l) (sym (text_of-parts name base D plan))
@@ -234,6 +296,13 @@ puts name base D database defined plan is old new result writes = record { text 
 
 pub puts_short : (name : GraphName) (base : List ℕ) (D : Data) → IsDatabase D → IsDefined name D → (old : SinkState) → PutsGraph name base D old old (Err Memory)
 puts_short name base D database defined old = let plan = some_plan name D in puts name base D database defined plan.0 plan.1 old old (Err Memory) (writes_short _)
+
+pub puts_later : (base : List ℕ) (D : Data) → IsDatabase D → KeepsKeys D → (firsts : List ℕ) (plan : Plan) → IsPlanOf Map D plan → (old new : SinkState) (result : Result (Unit {0}) PutError)
+    → Writes (text_of base (tables_level base D plan firsts)) old new result → PutsLaterRows Map base D firsts old new result
+puts_later base D database kept firsts plan is old new result writes = record { text = text_of base (tables_level base D plan firsts); is_text = later_text Map base D (λ t sides h. database) kept plan is firsts; writes = writes }
+
+pub puts_later_short : (base : List ℕ) (D : Data) → IsDatabase D → KeepsKeys D → (firsts : List ℕ) (old : SinkState) → PutsLaterRows Map base D firsts old old (Err Memory)
+puts_later_short base D database kept firsts old = let plan = some_plan Map D in puts_later base D database kept firsts plan.0 plan.1 old old (Err Memory) (writes_short _)
 
 -- ---- marks
 

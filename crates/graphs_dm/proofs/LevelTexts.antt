@@ -1,8 +1,9 @@
 -- How the texts of levels join.
-use Rattle.std.proofs.Common.{◌≡◌, ◌∙◌, append_assoc, sym, ap, ℕ, ◌+◌, ◌<◌, List, [], ◌∷◌, ◌++◌, refl, Result, Ok, Err}
+use Rattle.std.proofs.Common.{◌≡◌, ◌∙◌, append_assoc, sym, ap, ℕ, ◌+◌, ◌<◌, Bool, true, List, [], ◌∷◌, ◌++◌, refl, Result, Ok, Err}
 use Rattle.std.proofs.lemmas.List.{append-nil}
 use Rattle.std.proofs.lemmas.Grind.{flat_map-append}
 use Rattle.std.specs.List.{flat_map}
+use Rattle.std.specs.Prelude.{if◌then◌else◌, nat_lt}
 use Rattle.members_dm.specs.Places.{items_of, levels, one_item, under}
 use Rattle.members_dm.proofs.PlacesLemmas.{items_of-front, items_of-level, items_of-no_level, items_of-none, items_of-one, items_of-under}
 use Rattle.facts_dm.specs.Facts.{Fact, Node}
@@ -16,7 +17,7 @@ use Rattle.schema_dm.specs.declared.table.Table.{Table}
 use Rattle.table_csv.specs.Databases.{Data}
 use Rattle.graphs_dm.specs.Nodes.{row_node}
 use Rattle.graphs_dm.specs.RowFacts.{line_of, reference_fact}
-use Rattle.graphs_dm.specs.Levels.{Placed, links_level, text_of}
+use Rattle.graphs_dm.specs.Levels.{Placed, from_first, links_level, text_of}
 
 module _ (base : List ℕ) where
   pub text_of-none : text_of base [] ≡ []
@@ -102,3 +103,8 @@ module _ (base : List ℕ) where
 -- memory ran out before anything was put
 pub writes_short : (text : List ℕ) {a : SinkState} → Writes text a a (Err Memory)
 writes_short text {a = a} = Writes-short {xs = []} text (Written-nothing a)
+
+-- nothing is written of a row before the first one
+pub none_before : (base : List ℕ) (first i : ℕ) (level : ℕ → Placed) (items : List ℕ) → nat_lt i first ≡ true → items ≡ items ++ text_of base (from_first first level i)
+none_before base first i level items e =
+    sym (ap (λ (b : Bool). items ++ text_of base (if b then [] else level i)) e ∙ ap (λ (l : List ℕ). items ++ l) (text_of-none base) ∙ append-nil items)

@@ -2,7 +2,7 @@
 -- ontology, and binary relations are single links in it. The map-keys graph is the same with every table as a class, and marks
 -- the node of each row that violates a key as different from itself (after Sequeda, Arenas and Miranker, On Directly Mapping
 -- Relational Databases to RDF and OWL, WWW 2012). Tables, keys and rows are counted from 0.
-use Rattle.std.specs.Prelude.{◌≡◌, ◌<◌, ◌↔◌, ℕ, List, [], ◌∷◌, length, Result}
+use Rattle.std.specs.Prelude.{◌≡◌, ◌<◌, ◌≤◌, ◌↔◌, ℕ, List, [], ◌∷◌, length, slice_index_or, Result}
 use Rattle.std.specs.List.{flat_map}
 use Rattle.members_dm.specs.Membership.{IsIn}
 use Rattle.members_dm.specs.Places.{Place, IsListing}
@@ -94,4 +94,27 @@ pub record HasItsTriples (name : GraphName) (base : List ℕ) (D : Data) (text :
 pub record PutsGraph (name : GraphName) (base : List ℕ) (D : Data) (old new : SinkState) (result : Result (Unit {0}) PutError) : Type 0 where
   pub text : List ℕ
   pub is_text : IsGraphText name base D text
+  pub writes : Writes text old new result
+
+-- ---- the rows of a batch
+
+-- the first row of the table that counts, where the list tells one; else its row 0
+abbrev pub first_row : List ℕ → ℕ → ℕ
+first_row firsts t = slice_index_or firsts t 0
+
+-- a fact of the graph stands at this place, and it is of a row that isn't before the first row of its table
+pub data LaterRowStandsAt (name : GraphName) (base : List ℕ) (D : Data) (firsts : List ℕ) (place : Place) (fact : Fact) : Type 0 where
+  of_later_row : (t i : ℕ) (rest : Place) → HasRow D t i → first_row firsts t ≤ i → place ≡ 1 ∷ t ∷ i ∷ rest → GraphRowStandsAt name base D t i rest fact
+      → LaterRowStandsAt name base D firsts place fact
+
+-- the lines of exactly the triples of these rows, in rising order of their places in the graph
+pub record IsLaterRowsText (name : GraphName) (base : List ℕ) (D : Data) (firsts : List ℕ) (text : List ℕ) : Type 0 where
+  pub facts : List Fact
+  pub listing : IsListing (LaterRowStandsAt name base D firsts) facts
+  pub lines : text ≡ flat_map (line_of base) facts
+
+-- this text was put, or at a refusal a prefix of it
+pub record PutsLaterRows (name : GraphName) (base : List ℕ) (D : Data) (firsts : List ℕ) (old new : SinkState) (result : Result (Unit {0}) PutError) : Type 0 where
+  pub text : List ℕ
+  pub is_text : IsLaterRowsText name base D firsts text
   pub writes : Writes text old new result

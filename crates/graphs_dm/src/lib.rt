@@ -15,4 +15,5 @@ mod writer;
 pub use graph_name::GraphName;
 pub use writer::{
     write_direct, write_direct_by, write_map, write_map_by, write_map_keys, write_map_keys_by,
+    write_map_rows,
 };

@@ -1,4 +1,4 @@
-ghost use Rattle.std.specs.Prelude.{◌≡◌, ◌+◌, ◌<◌, ◌^◌, ◌++◌, ℕ, None, Some, IfOk, OnOk, decimal, encode_utf8_all, length, map, slice_get, slice_index_or};
+ghost use Rattle.std.specs.Prelude.{◌≡◌, ◌+◌, ◌<◌, ◌^◌, ◌++◌, ℕ, None, Some, IfOk, OnOk, decimal, encode_utf8_all, length, map, nat_lt, slice_get, slice_index_or};
 ghost use Rattle.std.specs.List.{flat_map};
 ghost use Rattle.members_dm.specs.Membership.{IsIn};
 ghost use Rattle.members_dm.specs.Places.{levels};
@@ -9,7 +9,8 @@ ghost use Rattle.keys_dm.specs.TableIndexes.{AreIndexesOf};
 ghost use Rattle.keys_dm.specs.declared.index.Entry.{Entry as TheEntry};
 ghost use Rattle.ntriples_dm.specs.Written.{iri_text, term_text};
 ghost use Rattle.graphs_dm.specs.Heads.{AreAllHeads, AreHeads, added, cell_line, part_head, primary_places, relation_head, still_first, up_to, value_line};
-ghost use Rattle.graphs_dm.specs.Levels.{referenced, relation_row_level, row_group, row_level, text_of};
+ghost use Rattle.graphs_dm.specs.Graphs.{first_row};
+ghost use Rattle.graphs_dm.specs.Levels.{from_first, referenced, relation_row_level, row_group, row_level, text_of};
 ghost use Rattle.graphs_dm.specs.Relations.{key_at};
 ghost use Rattle.graphs_dm.specs.Lines.{key_line, keys_line, link_line, mark_line};
 ghost use Rattle.graphs_dm.specs.Nodes.{key_parts, part_of, primary_parts, row_node};
@@ -40,6 +41,18 @@ pub struct Source<'a> {
     pub indexes: &'a KeyIndexes,
     pub heads: &'a Heads,
     pub plan: &'a Plan,
+    /// The first row of each table that is written, counted from 0; 0 of the tables behind the last that is told.
+    pub first_rows: &'a [u32],
+}
+
+// Whether the row at this place is before the first row of its table that is written.
+fn is_before_first(source: &Source, t: u32, i: usize) -> bool
+    ensures { result ≡ nat_lt i (first_row source.now.first_rows.now t) }
+{
+    match source.first_rows.get(t as usize) {
+        None => false,
+        Some(first) => i < *first as usize,
+    }
 }
 
 // ---- literals
@@ -339,8 +352,8 @@ fn append_lines(
     append_mark(subject, marked, out)
 }
 
-/// Appends the lines of the row at this place. The subject is written to a buffer of its own, whatever that held.
-pub fn append_row(
+// Appends the lines of the row at this place. The subject is written to a buffer of its own, whatever that held.
+fn append_row(
     source: &Source,
     t: u32,
     i: usize,
@@ -358,6 +371,26 @@ pub fn append_row(
     append_node(source, t, i, subject)?;
     let marked = source.plan.is_marked(t, i);
     append_lines(source, t, heads, subject.as_slice(), row, marked, out)
+}
+
+/// Appends the lines of the row at this place, unless it is before the first one of its table. The subject is written to a
+/// buffer of its own, whatever that held.
+pub fn append_later_row(
+    source: &Source,
+    t: u32,
+    i: usize,
+    subject: &mut Vec<u8>,
+    out: &mut Vec<u8>,
+) -> Result<(), AllocError>
+    requires has { HasRow source.now.database.now t i }
+    requires indexes { AreIndexesOf source.now.database.now source.now.indexes.now }
+    requires heads { AreAllHeads source.now.base.now source.now.database.now.tables source.now.heads.now }
+    ensures { OnOk result (out.new.items ≡ out.old.items ++ text_of source.now.base.now (from_first (first_row source.now.first_rows.now t) (row_level source.now.base.now source.now.database.now source.now.plan.now t) i)) }
+{
+    if is_before_first(source, t, i) {
+        return Ok(());
+    }
+    append_row(source, t, i, subject, out)
 }
 
 // ---- rows of relations
@@ -382,9 +415,9 @@ fn first_referenced(source: &Source, t: u32, number: u32, row: &[Cell]) -> Optio
     }
 }
 
-/// Appends the line of the row at this place of the relation that the table is, with this text between the nodes. The first
-/// node is written to a buffer of its own, whatever that held.
-pub fn append_pair(
+// Appends the line of the row at this place of the relation that the table is, with this text between the nodes. The first
+// node is written to a buffer of its own, whatever that held.
+fn append_pair(
     source: &Source,
     t: u32,
     sides: Binary,
@@ -417,4 +450,29 @@ pub fn append_pair(
             }
         },
     }
+}
+
+/// Appends the line of the row at this place of the relation that the table is, with this text between the nodes, unless the
+/// row is before the first one of its table. The first node is written to a buffer of its own, whatever that held.
+pub fn append_later_pair(
+    source: &Source,
+    t: u32,
+    sides: Binary,
+    head: &[u8],
+    i: usize,
+    subject: &mut Vec<u8>,
+    out: &mut Vec<u8>,
+) -> Result<(), AllocError>
+    requires has { HasRow source.now.database.now t i }
+    requires left { sides.left < length (table_at source.now.database.now.tables t).foreign }
+    requires right { sides.right < length (table_at source.now.database.now.tables t).foreign }
+    requires head { head.now ≡ relation_head source.now.base.now source.now.database.now.tables t sides }
+    requires indexes { AreIndexesOf source.now.database.now source.now.indexes.now }
+    requires heads { AreAllHeads source.now.base.now source.now.database.now.tables source.now.heads.now }
+    ensures { OnOk result (out.new.items ≡ out.old.items ++ text_of source.now.base.now (from_first (first_row source.now.first_rows.now t) (relation_row_level source.now.base.now source.now.database.now t sides) i)) }
+{
+    if is_before_first(source, t, i) {
+        return Ok(());
+    }
+    append_pair(source, t, sides, head, i, subject, out)
 }

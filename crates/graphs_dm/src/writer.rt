@@ -6,11 +6,11 @@ ghost use Rattle.keys_dm.specs.TableIndexes.{AreIndexesOf};
 ghost use Rattle.keys_dm.specs.Violations.{KeepsKeys};
 ghost use Rattle.outside_dm.specs.Putting.{Writes};
 ghost use Rattle.pages_dm.specs.Streams.{Streams};
-ghost use Rattle.graphs_dm.specs.Graphs.{HasItsTriples, IsDefined, IsGraphText, MarksViolatingRows, PutsGraph};
+ghost use Rattle.graphs_dm.specs.Graphs.{HasItsTriples, IsDefined, IsGraphText, MarksViolatingRows, PutsGraph, PutsLaterRows, first_row};
 ghost use Rattle.graphs_dm.specs.Heads.{AreAllHeads};
 ghost use Rattle.graphs_dm.specs.Interpreted.{IsInterpretedWhereKept};
 ghost use Rattle.graphs_dm.specs.KeyNodes.{NodesByKeys};
-ghost use Rattle.graphs_dm.specs.Levels.{graph_level, graph_part, relation_row_level, row_level, table_level, tables_level, text_of};
+ghost use Rattle.graphs_dm.specs.Levels.{from_first, graph_level, graph_part, relation_row_level, row_level, table_level, tables_level, text_of};
 ghost use Rattle.graphs_dm.specs.OwnNodes.{RowsHaveOwnNodes};
 ghost use Rattle.graphs_dm.specs.Plans.{AreBinaries};
 
@@ -20,7 +20,7 @@ use crate::interpreted::interpreted_where_kept;
 use crate::ontology::append_ontology;
 use crate::plan::Plan;
 use crate::relations::relation_head;
-use crate::rows::{Source, append_pair, append_row};
+use crate::rows::{Source, append_later_pair, append_later_row};
 use facts_dm::naming_laws;
 use keys_dm::KeyIndexes;
 use names_dm::Base;
@@ -40,11 +40,11 @@ fn put_class<K: Sink>(
     requires table { t < length source.now.database.now.tables }
     requires indexes { AreIndexesOf source.now.database.now source.now.indexes.now }
     requires heads { AreAllHeads source.now.base.now source.now.database.now.tables source.now.heads.now }
-    ensures { Streams (text_of source.now.base.now (levels (length (rows_at source.now.database.now.rows t)) (row_level source.now.base.now source.now.database.now source.now.plan.now t))) (K.state out.old) page.old.items (K.state out.new) page.new.items result }
+    ensures { Streams (text_of source.now.base.now (levels (length (rows_at source.now.database.now.rows t)) (from_first (first_row source.now.first_rows.now t) (row_level source.now.base.now source.now.database.now source.now.plan.now t)))) (K.state out.old) page.old.items (K.state out.new) page.new.items result }
 {
     let mut subject = Vec::new(source.alloc);
     for i in 0..source.database.rows_of(t).len() {
-        let Ok(()) = append_row(source, t, i, &mut subject, page) else {
+        let Ok(()) = append_later_row(source, t, i, &mut subject, page) else {
             return Err(PutError::Memory);
         };
         put_if_full(page, out)?;
@@ -64,14 +64,15 @@ fn put_relation<K: Sink>(
     requires relation { IsBinaryRelation source.now.database.now.tables t sides }
     requires indexes { AreIndexesOf source.now.database.now source.now.indexes.now }
     requires heads { AreAllHeads source.now.base.now source.now.database.now.tables source.now.heads.now }
-    ensures { Streams (text_of source.now.base.now (levels (length (rows_at source.now.database.now.rows t)) (relation_row_level source.now.base.now source.now.database.now t sides))) (K.state out.old) page.old.items (K.state out.new) page.new.items result }
+    ensures { Streams (text_of source.now.base.now (levels (length (rows_at source.now.database.now.rows t)) (from_first (first_row source.now.first_rows.now t) (relation_row_level source.now.base.now source.now.database.now t sides)))) (K.state out.old) page.old.items (K.state out.new) page.new.items result }
 {
     let Ok(head) = relation_head(source.alloc, source.base, source.database, t, sides) else {
         return Err(PutError::Memory);
     };
     let mut subject = Vec::new(source.alloc);
     for i in 0..source.database.rows_of(t).len() {
-        let Ok(()) = append_pair(source, t, sides, head.as_slice(), i, &mut subject, page) else {
+        let Ok(()) = append_later_pair(source, t, sides, head.as_slice(), i, &mut subject, page)
+        else {
             return Err(PutError::Memory);
         };
         put_if_full(page, out)?;
@@ -90,7 +91,7 @@ fn put_table<K: Sink>(
     requires binaries { AreBinaries source.now.database.now.tables source.now.plan.now }
     requires indexes { AreIndexesOf source.now.database.now source.now.indexes.now }
     requires heads { AreAllHeads source.now.base.now source.now.database.now.tables source.now.heads.now }
-    ensures { Streams (text_of source.now.base.now (table_level source.now.base.now source.now.database.now source.now.plan.now t)) (K.state out.old) page.old.items (K.state out.new) page.new.items result }
+    ensures { Streams (text_of source.now.base.now (table_level source.now.base.now source.now.database.now source.now.plan.now source.now.first_rows.now t)) (K.state out.old) page.old.items (K.state out.new) page.new.items result }
 {
     match source.plan.relation_at(t) {
         None => put_class(source, t, page, out),
@@ -103,7 +104,7 @@ fn put_tables<K: Sink>(source: &Source, page: &mut Vec<u8>, out: &mut K) -> Resu
     requires binaries { AreBinaries source.now.database.now.tables source.now.plan.now }
     requires indexes { AreIndexesOf source.now.database.now source.now.indexes.now }
     requires heads { AreAllHeads source.now.base.now source.now.database.now.tables source.now.heads.now }
-    ensures { Streams (text_of source.now.base.now (tables_level source.now.base.now source.now.database.now source.now.plan.now)) (K.state out.old) page.old.items (K.state out.new) page.new.items result }
+    ensures { Streams (text_of source.now.base.now (tables_level source.now.base.now source.now.database.now source.now.plan.now source.now.first_rows.now)) (K.state out.old) page.old.items (K.state out.new) page.new.items result }
 {
     for t in 0..source.database.schema().tables().len() {
         put_table(source, t as u32, page, out)?;
@@ -116,7 +117,7 @@ fn put_all<K: Sink>(source: &Source, page: &mut Vec<u8>, out: &mut K) -> Result<
     requires binaries { AreBinaries source.now.database.now.tables source.now.plan.now }
     requires indexes { AreIndexesOf source.now.database.now source.now.indexes.now }
     requires heads { AreAllHeads source.now.base.now source.now.database.now.tables source.now.heads.now }
-    ensures { Writes (page.old.items ++ text_of source.now.base.now (tables_level source.now.base.now source.now.database.now source.now.plan.now)) (K.state out.old) (K.state out.new) result }
+    ensures { Writes (page.old.items ++ text_of source.now.base.now (tables_level source.now.base.now source.now.database.now source.now.plan.now source.now.first_rows.now)) (K.state out.old) (K.state out.new) result }
 {
     put_tables(source, page, out)?;
     put_rest(page.as_slice(), out)
@@ -197,8 +198,38 @@ fn put_plan<K: Sink>(
         indexes,
         heads: &heads,
         plan,
+        first_rows: &[],
     };
     put_all(&source, &mut page, out)
+}
+
+// Puts the lines of the later rows by the graph's plan.
+fn put_later_rows<K: Sink>(
+    alloc: Global,
+    base: &Base,
+    database: &Database,
+    indexes: &KeyIndexes,
+    plan: &Plan,
+    first_rows: &[u32],
+    out: &mut K,
+) -> Result<(), PutError>
+    requires indexes { AreIndexesOf database.now indexes.now }
+    requires binaries { AreBinaries database.now.tables plan.now }
+    ensures { Writes (text_of base.now (tables_level base.now database.now plan.now first_rows.now)) (K.state out.old) (K.state out.new) result }
+{
+    let Ok(heads) = heads_of(alloc, base, database.schema().tables()) else {
+        return Err(PutError::Memory);
+    };
+    let source = Source {
+        alloc,
+        base,
+        database,
+        indexes,
+        heads: &heads,
+        plan,
+        first_rows,
+    };
+    put_all(&source, &mut Vec::new(alloc), out)
 }
 
 // Puts a graph.
@@ -295,6 +326,30 @@ pub fn write_map_by<K: Sink>(
     ensures keyed { NodesByKeys base.now database.now }
 {
     put_graph(alloc, GraphName::Map, base, database, indexes, out)
+}
+
+/// Puts the lines of the map graph of the rows that aren't before the first row of their table, in the graph's order: what is
+/// to be put behind the text of the earlier rows, where each of these references no later row. `first_rows` tells the
+/// first row of each table in declared order, counted from 0; of a table behind the last that it tells all rows are put.
+///
+/// A refusal is as that of `write_direct`.
+pub fn write_map_rows<K: Sink>(
+    alloc: Global,
+    base: &Base,
+    database: &Database,
+    indexes: &KeyIndexes,
+    first_rows: &[u32],
+    out: &mut K,
+) -> Result<(), PutError>
+    requires indexes { AreIndexesOf database.now indexes.now }
+    requires kept { KeepsKeys database.now }
+    ensures { PutsLaterRows GraphName.Map base.now database.now first_rows.now (K.state out.old) (K.state out.new) result }
+{
+    let _schema = database.schema();
+    let Ok(plan) = Plan::new(alloc, GraphName::Map, database, indexes) else {
+        return Err(PutError::Memory);
+    };
+    put_later_rows(alloc, base, database, indexes, &plan, first_rows, out)
 }
 
 /// Puts the map-keys graph of a database as N-Triples: as the map graph with each table as a class, and behind the other
