@@ -1,0 +1,12 @@
+pub mod AnswerLemmas
+pub mod EvaluationLemmas
+pub mod FilterLemmas
+pub mod JoinLemmas
+pub mod KeyLemmas
+pub mod NamedLemmas
+pub mod NumberLemmas
+pub mod OperatorLemmas
+pub mod RowLemmas
+pub mod StepLemmas
+pub mod TableLemmas
+pub mod VariableLemmas

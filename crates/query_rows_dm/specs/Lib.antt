@@ -1,0 +1,9 @@
+pub mod Answers
+pub mod Evaluation
+pub mod Grids
+pub mod Keys
+pub mod Names
+pub mod Numbers
+pub mod Operators
+pub mod Relations
+pub mod Tables
