@@ -1,0 +1,7 @@
+//! Tests of `store_dm`, in a crate of their own so that its proofs are checked once.
+#![tactic(auto)]
+
+#[cfg(test)]
+mod terms;
+#[cfg(test)]
+mod tests;
