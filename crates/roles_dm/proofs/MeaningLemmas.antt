@@ -167,7 +167,7 @@ module _ (base : List ℕ) (laws : NamingLaws base) where
           (s.0, k.0, subject, object ∙ sym subject, k.1)
 
     -- a column has one kind
-    one_kind : (t c : Name) (k m : Kind) → IsColumn base G t c k → IsColumn base G t c m → k ≡ m
+    pub one_kind : (t c : Name) (k m : Kind) → IsColumn base G t c k → IsColumn base G t c m → k ≡ m
     one_kind t c k m a b = datatype-injective base laws k m (iri_of _ _ (b.one_range (triple_of base (a_range (column_named t c) k)) a.range refl refl))
 
     -- a triple whose predicate is no word of the vocabularies, by what its predicate means
@@ -248,14 +248,14 @@ module _ (base : List ℕ) (laws : NamingLaws base) where
           ]
 
       -- where the predicate is no word, no column and no link
-      pub pair_unexplained : ((w : Word) → x.predicate ≢ word_iri w) → Means base G (term.Iri x.predicate) means_nothing → ¬ Explained base G x
-      pair_unexplained apart h e = elim (as_pair base laws G x (apart RdfType) (apart RdfsDomain) (apart RdfsRange) (apart OwlDifferentFrom) e) [
+      pub pair_unexplained : x.predicate ≢ word_iri RdfType → x.predicate ≢ word_iri RdfsDomain → x.predicate ≢ word_iri RdfsRange → x.predicate ≢ word_iri OwlDifferentFrom → Means base G (term.Iri x.predicate) means_nothing → ¬ Explained base G x
+      pair_unexplained no_type no_domain no_range no_different h e = elim (as_pair base laws G x no_type no_domain no_range no_different e) [
         | inl s ↦ h.1 s.1 s.2.kind (ap (λ (y : Statement). term.Iri y.predicate) s.3) ((explained_by base laws G x (a_cell s.0 s.1 s.2) s.3).0 e).1
         | inr s ↦ (let f = (explained_by base laws G x (a_link s.0 s.1 s.2) s.3).0 e in h.2 s.1 f.0 f.1 (ap (λ (y : Statement). term.Iri y.predicate) s.3) f.2)
       ]
 
-      pub class_pair_unexplained : ((w : Word) → x.predicate ≢ word_iri w) → (t : Name) → Means base G (term.Iri x.predicate) (means_class t) → ¬ Explained base G x
-      class_pair_unexplained apart t h e = elim (as_pair base laws G x (apart RdfType) (apart RdfsDomain) (apart RdfsRange) (apart OwlDifferentFrom) e) [
+      pub class_pair_unexplained : x.predicate ≢ word_iri RdfType → x.predicate ≢ word_iri RdfsDomain → x.predicate ≢ word_iri RdfsRange → x.predicate ≢ word_iri OwlDifferentFrom → (t : Name) → Means base G (term.Iri x.predicate) (means_class t) → ¬ Explained base G x
+      class_pair_unexplained no_type no_domain no_range no_different t h e = elim (as_pair base laws G x no_type no_domain no_range no_different e) [
         | inl s ↦ table≢column t s.1 (sym h.0 ∙ ap (λ (y : Statement). term.Iri y.predicate) s.3)
         | inr s ↦ table≢link t s.1 (sym h.0 ∙ ap (λ (y : Statement). term.Iri y.predicate) s.3)
       ]

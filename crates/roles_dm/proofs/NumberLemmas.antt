@@ -45,7 +45,7 @@ not_zero ts x (suc n) a e = cc
 
 module _ (g : GraphValue) (G : List Statement) (is : IsGraphOf g G) where
   -- the number of a term that a triple holds
-  number_held : (x : Term) (n m : ℕ) → IsNumberOf g x n → HoldsTerm g x → term_at g.terms m ≡ Some x → m ≡ n
+  pub number_held : (x : Term) (n m : ℕ) → IsNumberOf g x n → HoldsTerm g x → term_at g.terms m ≡ Some x → m ≡ n
   number_held x n m (inl h) holds at = absurd (h.1 holds)
   number_held x n m (inr h) holds at = one_number g.terms x m n is.lawful.apart at h.1
 
@@ -107,7 +107,7 @@ has_found g s p o found rest (Some x) ns np nz exact steps = (
 -- ---- the only object
 
 module _ (g : GraphValue) (lawful : IsLawful g) (s p : ℕ) (ns : s ≢ 0) (np : p ≢ 0) (found : List (ℕ × ℕ × ℕ)) (exact : AreMatches g s p 0 found) where
-  item_of : (x : ℕ × ℕ × ℕ) → Contains found x → (s ≡ x.0) × (p ≡ x.1) × HasNumbers g s p x.2
+  pub item_of : (x : ℕ × ℕ × ℕ) → Contains found x → (s ≡ x.0) × (p ≡ x.1) × HasNumbers g s p x.2
   item_of x h =
       let k = (exact x.0 x.1 x.2).0 h in
       let first = fits_is s x.0 ns k.1.0 in
@@ -118,7 +118,7 @@ module _ (g : GraphValue) (lawful : IsLawful g) (s p : ℕ) (ns : s ≢ 0) (np :
         (ns, np, not_zero g.terms names.0.object x.2 names.1.2, subst (Contains g.triples) (λ i. record { first = sym first i; second = sym second i; third = x.2 }) k.0),
       )
 
-  there : (b : ℕ) → HasNumbers g s p b → Contains found (s, p, b)
+  pub there : (b : ℕ) → HasNumbers g s p b → Contains found (s, p, b)
   there b h = (exact s p b).1 (h.3, (inr refl, inr refl, inl refl))
 
   pub only_none : found ≡ [] → (o : ℕ) → ¬ IsOnlyObject g s p o

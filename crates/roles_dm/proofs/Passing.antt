@@ -5,24 +5,12 @@ use Rattle.schema_dm.specs.Naming.{Name}
 use Rattle.names_dm.specs.declared.names.ColumnName.{ColumnName}
 use Rattle.names_dm.specs.declared.names.RelName.{RelName}
 use Rattle.names_dm.specs.Statements.{Statement}
-use Rattle.facts_dm.specs.Facts.{Fact, KindText, Link, Node, a_cell, a_class, a_domain, a_link, a_link_range, a_mark, a_node, a_property, a_range, an_object, rel_link, triple_of}
+use Rattle.facts_dm.specs.Facts.{Fact, KindText, Link, Node, a_cell, a_link, a_node, rel_link, triple_of}
 use Rattle.facts_dm.specs.Meanings.{NamingLaws}
 use Rattle.layouts_dm.specs.Layouts.{cell_fact, column_named}
 use Rattle.layouts_dm.specs.Outcomes.{Applies, HasExplainedValues, NoKeyValue, Passes, SaysAt, TwoTables, TwoValues, Unexplained}
 use Rattle.layouts_dm.specs.Rules.{Explained, Explains, IsLink}
-
--- no value, no node of a class and no pair
-abbrev pub IsPlainFact : Fact → Type 0
-IsPlainFact (a_class t) = Unit {0}
-IsPlainFact (a_property c) = Unit {0}
-IsPlainFact (an_object l) = Unit {0}
-IsPlainFact (a_domain i t) = Unit {0}
-IsPlainFact (a_range c k) = Unit {0}
-IsPlainFact (a_link_range l u) = Unit {0}
-IsPlainFact (a_node n t) = ⊥
-IsPlainFact (a_cell n c v) = ⊥
-IsPlainFact (a_link n l m) = ⊥
-IsPlainFact (a_mark n) = Unit {0}
+use Rattle.roles_dm.specs.Findings.{IsFree}
 
 -- ---- facts of different sorts, and their parts
 
@@ -61,13 +49,13 @@ module _ (base : List ℕ) (laws : NamingLaws base) (G : List Statement) (i : �
   explained_at : (f : Fact) → SaysAt base G i f → Explains base G f → (x : Statement) → slice_get G i ≡ Some x → Explained base G x
   explained_at f a h x b = (f, unsome _ _ (sym b ∙ a), h)
 
-  -- an explained fact of any other sort passes
-  pub passes_plain : (f : Fact) → IsPlainFact f → SaysAt base G i f → Explains base G f → Passes base G i
+  -- a fact that no other triple makes bad passes
+  pub passes_plain : (f : Fact) → IsFree f → SaysAt base G i f → Explains base G f → Passes base G i
   passes_plain f plain a h = record {
     explained = explained_at f a h;
-    one_value = λ j n t c v w l p q. absurd (subst IsPlainFact (said_one f (cell_fact n t c w) a q) plain);
-    one_table = λ j n t u l p q. absurd (subst IsPlainFact (said_one f (a_node n u) a q) plain);
-    values = λ q t u n m k b. absurd (subst IsPlainFact (said_one f (a_link n (rel_link q) m) a b) plain);
+    one_value = λ j n t c v w l p q. absurd (subst IsFree (said_one f (cell_fact n t c w) a q) plain);
+    one_table = λ j n t u l p q. absurd (subst IsFree (said_one f (a_node n u) a q) plain);
+    values = λ q t u n m k b. absurd (subst IsFree (said_one f (a_link n (rel_link q) m) a b) plain);
   }
 
   -- so does a node of a class, where no earlier triple gives it another

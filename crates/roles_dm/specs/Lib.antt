@@ -1,6 +1,13 @@
+pub mod Bad
+pub mod Canonical
+pub mod Columned
+pub mod Findings
+pub mod Judging
 pub mod Links
 pub mod Meanings
 pub mod Naming
+pub mod Numbered
 pub mod Numbers
 pub mod Relations
 pub mod Roles
+pub mod Seen

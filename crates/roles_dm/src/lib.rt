@@ -1,15 +1,24 @@
 //! What a graph of a relational database says of each of its terms.
 #![tactic(auto)]
 
+mod bad;
+mod canonical;
+mod cause;
+mod columned;
 mod columns;
+mod finding;
 mod links;
 mod naming;
+mod numbered;
 mod numbers;
 mod relations;
 mod role;
 mod roles;
+mod seen;
 mod words;
 
+pub use bad::first_bad;
+pub use cause::{BadTriple, Cause};
 pub use numbers::{graph_of, has, number_of, only_object};
 pub use relations::{Relations, relations_of, stated_relation};
 pub use role::{ColumnRole, LinkName, LinkRole, Role, Roles};

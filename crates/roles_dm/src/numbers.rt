@@ -1,8 +1,11 @@
 // A graph of numbers, and what is looked up in it.
 ghost use Rattle.std.specs.Prelude.{◌≡◌, ◌↔◌, ◌≤◌, IfOk, IsTrue, List, length};
 ghost use Rattle.names_dm.specs.Statements.{Statement};
+ghost use Rattle.std.specs.Option.{option_copied};
+ghost use Rattle.roles_dm.specs.Roles.{role_at};
 ghost use Rattle.roles_dm.specs.Numbers.{HasNumbers, IsGraphOf, IsNumberOf, TellsOnly};
 
+use crate::role::Role;
 use names_dm::{Term, Triple, Triples};
 use std::alloc::{AllocError, Global};
 use store_dm::Graph;
@@ -74,4 +77,14 @@ pub fn only_object(graph: &Graph, subject: u32, predicate: u32) -> Option<u32>
         None => Some(object),
         Some(_) => None,
     }
+}
+
+/// The role of the number, where 0 has none.
+pub fn role_numbered(roles: &[Role], number: u32) -> Option<&Role>
+    ensures { option_copied result ≡ role_at roles.now number }
+{
+    if number == 0 {
+        return None;
+    }
+    roles.get(number as usize - 1)
 }
