@@ -1,0 +1,10 @@
+pub mod AcceptedGraph
+pub mod Collecting
+pub mod Decisions
+pub mod FactsTold
+pub mod GraphLayout
+pub mod ListedLemmas
+pub mod LoopLemmas
+pub mod RolesFound
+pub mod TablesFound
+pub mod TablesStand
