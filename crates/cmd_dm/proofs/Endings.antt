@@ -7,7 +7,7 @@ use Rattle.std.specs.FinMap.{get}
 use Rattle.std.proofs.lemmas.Bool.{lt-ltb}
 use Rattle.outside_dm.specs.Shelves.{Files, ShelfState, LoadKeeps, StoreKeeps, IsOverlong, longest}
 use Rattle.outside_dm.specs.Sinks.{SinkState, Puts}
-use Rattle.outside_dm.specs.Storing.{Stores, StoresAll, StoresFirst}
+use Rattle.outside_dm.specs.Storing.{Batch, Stores, StoresAll, StoresFirst}
 use Rattle.outside_dm.specs.declared.shelf.StoreError.{StoreError}
 use Rattle.outside_dm.specs.declared.shelf.StoreError.TheVariants.{Failed as StoreFailed, Memory as StoreMemory}
 use Rattle.outside_dm.specs.Putting.{Writes}
@@ -16,6 +16,7 @@ use Rattle.outside_dm.specs.declared.sink.PutError.TheVariants.{Failed as PutFai
 use Rattle.cmd_dm.specs.Questions.{Question, AnswerTo, Answers}
 use Rattle.cmd_dm.specs.Script.{Script, Work, Outcome, text_work, load, ask, refuse, write, refused, absent, too_long, done, status_of, AfterLoad, Comes}
 use Rattle.cmd_dm.specs.Ending.{Grows, Target, to_output, to_shelf, to_both, Spares, Wrote, WroteSome, Untouched, WriteFaultRose, ToldComes, ToldWork, Means, CountsKept, Ends, Leads, Step, put_status, store_status, NoFault}
+use Rattle.cmd_dm.specs.Invert.{files_work}
 use Rattle.cmd_dm.proofs.Outcomes.{outcome_unique}
 use Rattle.cmd_dm.specs.declared.status.File.{File}
 use Rattle.cmd_dm.specs.declared.status.Reason.{Reason}
@@ -313,6 +314,24 @@ ends_stored work stored (Err PutMemory) h w = record {
   means = inr (λ files told. (work, (refl, inr (h.ends, w.puts))));
   spares = tt;
   counts = counts_stored _ h.kept w;
+}
+
+-- files were stored or a store was refused, and nothing was to be put
+pub ends_filed : (files : Batch) {s t : ShelfState} (o : SinkState) (result : Result (Unit {0}) StoreError) → Stores files s t result → Ends to_shelf (write (files_work files)) s t o o (store_status result)
+ends_filed files o (Ok x) h = record {
+  means = λ told is. (files_work files, (refl, record { files = h.ends; text = Appends-nil o.held }));
+  spares = refl;
+  counts = counts_cut o h.kept;
+}
+ends_filed files o (Err StoreFailed) h = record {
+  means = (h.ends.0, λ told is. (files_work files, (refl, inl (h.ends.1, refl))));
+  spares = refl;
+  counts = counts_cut o h.kept;
+}
+ends_filed files o (Err StoreMemory) h = record {
+  means = inr (λ told is. (files_work files, (refl, inl (h.ends, refl))));
+  spares = refl;
+  counts = counts_cut o h.kept;
 }
 
 -- ---- what follows from how a command ended

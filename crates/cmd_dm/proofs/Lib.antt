@@ -1,3 +1,4 @@
+pub mod Inverses
 pub mod Outcomes
 pub mod Endings
 pub mod Lines
@@ -6,4 +7,6 @@ pub mod Found
 pub mod Subjects
 pub mod FileLemmas
 pub mod SomeOutcome
+pub mod StoredTables
+pub mod PlainLimits
 pub mod Promises

@@ -29,7 +29,7 @@ use Rattle.ntriples_reader_dm.proofs.OneAnswer.{one_answer}
 use Rattle.consistency_dm.proofs.FirstConflicts.{one_verdict}
 use Rattle.keys_dm.specs.Violations.{ViolatesAt}
 use Rattle.graphs_dm.proofs.GraphLevels.{graph_text_unique}
-use Rattle.cmd_dm.specs.Questions.{Question, AnswerTo, Answers, IsSchemaAnswer, IsRowsAnswer, IsTriplesAnswer, schema_of, rows_of, triples_of, verdict_of, violations_of, graph_of, removals_of, left_of, files_of}
+use Rattle.cmd_dm.specs.Questions.{Question, AnswerTo, Answers, IsSchemaAnswer, IsRowsAnswer, IsTriplesAnswer, schema_of, rows_of, triples_of, verdict_of, violations_of, graph_of, removals_of, left_of, files_of, inverse_of}
 use Rattle.outside_dm.specs.Storing.{Batch}
 use Rattle.schema_dm.specs.declared.table.ShapeTable.{ShapeTable}
 use Rattle.table_csv.proofs.OneText.{text_one}
@@ -37,6 +37,7 @@ use Rattle.clean_dm.specs.Removing.{IsLeft}
 use Rattle.clean_dm.proofs.OneCleaning.{one_cleaning}
 use Rattle.clean_dm.proofs.RowsLeft.{rows_one}
 use Rattle.cmd_dm.specs.Folder.{AreFilesOf}
+use Rattle.cmd_dm.proofs.Inverses.{inverse_answer_unique}
 use Rattle.cmd_dm.specs.Reasons.{ddl_status, graph_status, table_status}
 use Rattle.cmd_dm.specs.Script.{Script, Outcome, too_long, load, ask, refuse, write, AfterLoad, Comes}
 use Rattle.cmd_dm.specs.declared.status.File.{File}
@@ -159,6 +160,7 @@ answer_unique (graph_of name base D) a b h k = graph_text_unique name base D a b
 answer_unique (removals_of D) a b h k = one_cleaning D a b h k
 answer_unique (left_of D removals) a b h k = rows_one D (IsLeft removals) a b h k
 answer_unique (files_of folder tables rows) a b h k = files_one folder tables rows a b h k
+answer_unique (inverse_of base triples folder) a b h k = inverse_answer_unique base h.0 triples folder a b h.1 k.1
 
 after_load_unique : (file : File) (content : Option (List ℕ)) (rest : List ℕ → Outcome → Type 0) →
     ((bytes : List ℕ) (o p : Outcome) → rest bytes o → rest bytes p → o ≡ p) →

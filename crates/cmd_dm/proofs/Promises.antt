@@ -37,6 +37,17 @@ use Rattle.keys_dm.specs.declared.violation.Violation.{Violation}
 use Rattle.keys_dm.proofs.DatabaseLevels.{none_listed}
 use Rattle.graphs_dm.specs.Graphs.{AreTriplesOf, IsGraphText}
 use Rattle.graph_texts_dm.proofs.Texts.{exactly}
+use Rattle.graph_layouts_dm.proofs.KeysStand.{keys_stand}
+use Rattle.graph_layouts_dm.proofs.MapGraphStands.{map_stands}
+use Rattle.graph_layouts_dm.proofs.SomePlain.{some_plain}
+use Rattle.graphs_dm.proofs.NodeLaws.{own_nodes}
+use Rattle.keys_dm.proofs.OneMatch.{kept_matches}
+use Rattle.outside_dm.specs.Storing.{Batch, StoresAll}
+use Rattle.table_csv.specs.Plain.{IsPlain, PlainTable}
+use Rattle.layouts_dm.specs.LayoutTables.{StandsFor}
+use Rattle.inverse_dm.specs.Answers.{Refuses, StandsWithin}
+use Rattle.inverse_dm.specs.declared.error.InverseError.{InverseError}
+use Rattle.inverse_dm.specs.declared.error.InverseError.TheVariants as inverse
 use Rattle.graphs_dm.proofs.Contradictions.{interpreted_below}
 use Rattle.graphs_dm.specs.declared.graph_name.GraphName.{GraphName}
 use Rattle.graphs_dm.specs.declared.graph_name.GraphName.TheVariants as graph
@@ -44,26 +55,30 @@ use Rattle.cmd_dm.specs.Check.{check_script, check_text}
 use Rattle.cmd_dm.specs.Consistent.{consistent_script, verdict_text}
 use Rattle.cmd_dm.specs.Show.{show_script}
 use Rattle.cmd_dm.specs.GraphScript.{graph_script}
-use Rattle.cmd_dm.specs.Ending.{Ends, NoFault, Target, to_output, to_both}
+use Rattle.cmd_dm.specs.Ending.{Ends, NoFault, Target, to_output, to_both, to_shelf}
+use Rattle.cmd_dm.specs.Invert.{files_work, invert_script}
+use Rattle.cmd_dm.proofs.Inverses.{inverse_answer_unique, inverse_files, files_some}
+use Rattle.cmd_dm.proofs.StoredTables.{are_stored}
+use Rattle.cmd_dm.proofs.PlainLimits.{plain_within}
 use Rattle.cmd_dm.specs.Folder.{schema_file, table_file, shape_of}
-use Rattle.cmd_dm.specs.Headline.{HoldsFile, HoldsTables, HoldsDatabase, EndsSo, WritesText, WritesKept, WritesFolder, Checks, Shows, Judges, Promises, Cleans, IsCleanWork, TellsKeys}
+use Rattle.cmd_dm.specs.Headline.{HoldsFile, HoldsTables, HoldsDatabase, EndsSo, WritesText, WritesKept, WritesFolder, Checks, Shows, Judges, Promises, Cleans, IsCleanWork, TellsKeys, Inverts, StoresTables, AreStored, GivesBack, IsGraphFile}
 use Rattle.cmd_dm.specs.Plans.{IsOutcome, NamesFile, folder_file, graph_file, plan_of}
-use Rattle.cmd_dm.specs.Questions.{violations_of, verdict_of, graph_of, removals_of, left_of, files_of}
+use Rattle.cmd_dm.specs.Questions.{IsInverseAnswer, violations_of, verdict_of, graph_of, removals_of, left_of, files_of}
 use Rattle.cmd_dm.specs.Clean.{clean_script, clean_work}
-use Rattle.cmd_dm.specs.Reasons.{bad_base, key_reason}
+use Rattle.cmd_dm.specs.Reasons.{bad_base, inverse_status, key_reason}
 use Rattle.cmd_dm.specs.Script.{Script, Work, Outcome, usage, refused, done, text_work, too_long, status_of, Comes, AfterLoad, MayLoad, ask, write, refuse}
-use Rattle.cmd_dm.specs.Steps.{base_step, schema_step, rows_step, tables_step, database_step, folder_step, graph_step, kept_step, keys_step, triples_step, on_answer, on_violations}
+use Rattle.cmd_dm.specs.Steps.{base_step, schema_step, rows_step, tables_step, database_step, folder_step, graph_step, inverse_step, kept_step, keys_step, triples_step, on_answer, on_violations}
 use Rattle.cmd_dm.proofs.Endings.{ends_exact, status_comes}
 use Rattle.cmd_dm.proofs.Outcomes.{outcome_unique, schema_answer_unique, rows_answer_unique, triples_answer_unique}
 use Rattle.cmd_dm.proofs.SomeOutcome.{declared_schema}
 use Rattle.cmd_dm.specs.declared.command.Command.{Command}
-use Rattle.cmd_dm.specs.declared.command.Command.TheVariants.{Direct, Map, MapKeys, Check, Show, Consistent, Clean}
+use Rattle.cmd_dm.specs.declared.command.Command.TheVariants.{Direct, Map, MapKeys, Check, Show, Consistent, Clean, Invert}
 use Rattle.cmd_dm.specs.declared.status.File.{File}
 use Rattle.cmd_dm.specs.declared.status.File.TheVariants.{Schema, Table as TableFile, Query, Graph, Pattern, More}
 use Rattle.cmd_dm.specs.declared.status.Reason.{Reason}
 use Rattle.cmd_dm.specs.declared.steps.LoadedFolder.{LoadedFolder}
 use Rattle.cmd_dm.specs.declared.status.Status.{Status}
-use Rattle.cmd_dm.specs.declared.status.Status.TheVariants.{Usage, ReadFault, Memory}
+use Rattle.cmd_dm.specs.declared.status.Status.TheVariants.{Usage, ReadFault, Memory, Refused}
 
 -- one thing comes of words
 pub words_unique : (files : Files) (command : Option Command) (o p : Outcome) → IsOutcome files command o → IsOutcome files command p → o ≡ p
@@ -196,6 +211,18 @@ show_names document Graph name h = h.1
 show_names document Pattern name h = tt
 show_names document (More number) name h = tt
 
+-- behind the triples nothing is loaded
+abbrev stored_from : List ℕ → List ℕ → List Statement → Script
+stored_from base out triples = inverse_step base triples out (λ files. write (files_work files))
+
+invert_names : (base document out : List ℕ) (file : File) (name : List ℕ) → MayLoad (invert_script base document out) file name → IfSome (graph_file document file) (λ named. name ≡ named)
+unfolding base_step inverse_step
+invert_names base document out file name h =
+    show_names document file name
+    (graph_may_load document (stored_from base out) file name
+    (λ triples k. answer_may_load k.0 (λ files. write (files_work files)) file name ⊥ (λ files k. k) k.1.1)
+    (base_may_load (is_base base) (graph_step document (stored_from base out)) file name h))
+
 command_names : (command : Command) (file : File) (name : List ℕ) → MayLoad (plan_of command).script file name → NamesFile command file name
 command_names (Direct base folder nulls) file name h = graph_names graph.Direct base folder nulls file name h
 command_names (Map base folder nulls) file name h = graph_names graph.Map base folder nulls file name h
@@ -203,6 +230,7 @@ command_names (MapKeys base folder nulls) file name h = graph_names graph.MapKey
 command_names (Show document) file name h =
     show_names document file name (graph_may_load document (λ triples. write (text_work (flat_map triple_text triples))) file name (λ triples k. k) h)
 command_names (Consistent document) file name h = show_names document file name (graph_may_load document judged file name (λ triples k. k.1.1) h)
+command_names (Invert base document out) file name h = invert_names base document out file name h
 command_names (Clean folder out nulls) file name h = folder_names folder nulls (cleaned out) file name (λ loaded file h. h.1.1.1.1.1.1) h
 command_names (Check folder nulls) file name h = database_names folder nulls checked file name (λ D file h. h.1.1) h
 
@@ -428,11 +456,99 @@ tells_keys bytes triples document = record {
           (λ kept. one_verdict triples verdict Yes is (interpreted.1 kept)),
         )
 
+-- ---- tables that come back
+
+abbrev store : Batch → Script
+store files = write (files_work files)
+
+module _ (base document out : List ℕ) (files : Files) (bytes : List ℕ) (triples : List Statement) (good : IsTrue (is_base base)) (held : HoldsFile files (encode_utf8_all document) bytes)
+    (is : IsDocument bytes triples) (few : length triples ≤ limit) where
+  -- a run comes to what the answer leads to
+  invert_comes : (outcome : Outcome) → Comes files (invert_script base document out) outcome
+      → (answer : Result Batch Reason) × (IsInverseAnswer base triples out answer × Comes files (on_answer answer store) outcome)
+  unfolding base_step graph_step triples_step inverse_step
+  invert_comes outcome h =
+      let behind : List Statement → Script = λ triples. inverse_step base triples out store in
+      let loads : Comes files (graph_step document behind) outcome = subst (λ (b : Bool). Comes files (cond b (graph_step document behind) (refuse bad_base)) outcome) good h in
+      let asked = after_load Graph (get files (encode_utf8_all document)) bytes (λ bytes. Comes files (triples_step bytes behind) outcome) outcome held.held held.short loads in
+      let right = triples_answer_unique bytes asked.0 (Ok triples) asked.1.0 (is, few) in
+      let found = on_known files asked.0 triples behind outcome right asked.1.1 in
+      (found.0, (found.1.0.1, found.1.1))
+
+  stores_tables : (tables : List PlainTable) → StandsWithin base triples tables → {s t : ShelfState} {o p : SinkState} (status : Status) → Ends to_shelf (invert_script base document out) s t o p status → s.files ≡ Some files
+      → StoresTables out tables s t o p status
+  stores_tables tables within {s = s} {t = t} {o = o} {p = p} status ends told = record {
+    no_fault = λ calm. elim (status_comes _ _ _ _ _ _ _ ends files told calm) [
+      | inl h ↦ inl (h.1.1 ∙ ap status_of (comes h.0 h.1.0).1.1)
+      | inr memory ↦ inr memory
+    ];
+    stored = λ well.
+        let at = subst (λ (x : Status). Ends to_shelf (invert_script base document out) s t o p x) well ends in
+        let work = at.means files told in
+        let found = comes (done work.0) work.1.0 in
+        let same : work.0.files ≡ found.0 = ap (λ (w : Work). w.files) (done_one work.0 (files_work found.0) found.1.1) in
+        (found.0, (found.1.0, subst (λ (batch : Batch). StoresAll batch s.files t.files) same work.1.1.files));
+  }
+    where
+      done_one : (v w : Work) → ◌≡◌ {A = Outcome} (done v) (done w) → v ≡ w
+      done_one v w e = cc
+
+      on_known_answer : (answer : Result Batch Reason) (outcome : Outcome) → IsInverseAnswer base triples out answer → Comes files (on_answer answer store) outcome
+          → (batch : Batch) × (AreStored out tables batch × (outcome ≡ done (files_work batch)))
+      on_known_answer (Ok batch) outcome right h =
+          (batch, (are_stored out tables batch within.stands.of_shape within.limits (inverse_files base good triples out tables batch within.stands right), h))
+      on_known_answer (Err why) outcome right h =
+          let made = files_some out tables in
+          absurd (apart made.0 why (inverse_answer_unique base good triples out (Ok made.0) (Err why) (record { tables = tables; stands = within; of_tables = made.1 }) right))
+        where
+          apart : (batch : Batch) (why : Reason) → ◌≡◌ {A = Result Batch Reason} (Ok batch) (Err why) → ⊥
+          apart batch why e = cc
+
+      comes : (outcome : Outcome) → Comes files (invert_script base document out) outcome → (batch : Batch) × (AreStored out tables batch × (outcome ≡ done (files_work batch)))
+      comes outcome h = let asked = invert_comes outcome h in on_known_answer asked.0 outcome asked.1.0 asked.1.1
+
+  refused_so : (reason : Reason) → IsInverseAnswer base triples out (Err reason) → {s t : ShelfState} {o p : SinkState} (status : Status) → Ends to_shelf (invert_script base document out) s t o p status → s.files ≡ Some files
+      → EndsSo (Refused reason) s t o p status
+  refused_so reason right status ends told = ends_so files (refused reason) ends told (λ outcome h.
+      let asked = invert_comes outcome h in
+      let same = inverse_answer_unique base good triples out asked.0 (Err reason) asked.1.0 right in
+      subst (λ (answer : Result Batch Reason). Comes files (on_answer answer store) outcome) same asked.1.1)
+
+  refuses_so : (error : InverseError) → Refuses base triples error → {s t : ShelfState} {o p : SinkState} (status : Status) → Ends to_shelf (invert_script base document out) s t o p status → s.files ≡ Some files
+      → EndsSo (inverse_status error) s t o p status
+  refuses_so inverse.NoTables h status ends told = refused_so _ (inverse.NoTables, h, refl) status ends told
+  refuses_so (inverse.Unexplained place) h status ends told = refused_so _ (inverse.Unexplained place, h, refl) status ends told
+  refuses_so (inverse.TwoValues place) h status ends told = refused_so _ (inverse.TwoValues place, h, refl) status ends told
+  refuses_so (inverse.TwoTables place) h status ends told = refused_so _ (inverse.TwoTables place, h, refl) status ends told
+  refuses_so (inverse.NoKeyValue place) h status ends told = refused_so _ (inverse.NoKeyValue place, h, refl) status ends told
+  refuses_so inverse.TooManyTables h status ends told = refused_so _ (inverse.TooManyTables, h, refl) status ends told
+  refuses_so inverse.TooManyColumns h status ends told = refused_so _ (inverse.TooManyColumns, h, refl) status ends told
+  refuses_so inverse.TooManyRows h status ends told = refused_so _ (inverse.TooManyRows, h, refl) status ends told
+  refuses_so inverse.Memory h status ends told = absurd h
+
+  inverts : {s t : ShelfState} {o p : SinkState} (status : Status) → Ends to_shelf (invert_script base document out) s t o p status → s.files ≡ Some files → Inverts base out triples s t o p status
+  inverts status ends told = record { stands = λ tables within. stores_tables tables within status ends told; refused = λ error h. refuses_so error h status ends told }
+
+  gives_back : (D : Data) → IsText base → IsDatabase D → IsGraphFile base D bytes → {s t : ShelfState} {o p : SinkState} (status : Status) → Ends to_shelf (invert_script base document out) s t o p status → s.files ≡ Some files
+      → GivesBack base out D s t o p status
+  gives_back D text database graph_is status ends told = record {
+    some = some_plain D database;
+    stores = λ plain plain_is. stores_tables plain (record { stands = stands plain plain_is graph_is; limits = plain_within D database plain plain_is }) status ends told;
+  }
+    where
+      stands : (plain : List PlainTable) → IsPlain D plain → IsGraphFile base D bytes → StandsFor base triples plain
+      stands plain plain_is (inl kept) =
+          map_stands base D database (own_nodes base D database) plain plain_is kept.0 (kept_matches D database.schema kept.0) triples (exactly base (is_iri-base base good, text) D database graph.Map bytes triples kept.1 is)
+      stands plain plain_is (inr marked) =
+          keys_stand base D database (own_nodes base D database) plain plain_is triples (exactly base (is_iri-base base good, text) D database graph.MapKeys bytes triples marked is)
+
 -- each command keeps its promise
 pub promised : (command : Command) {s t : ShelfState} {o p : SinkState} (status : Status) → Ends (plan_of command).target (plan_of command).script s t o p status → Promises command s t o p status
 promised (Direct base folder nulls) status ends = writes_graph graph.Direct base folder nulls status ends
 promised (Map base folder nulls) status ends = writes_graph graph.Map base folder nulls status ends
 promised (MapKeys base folder nulls) status ends = writes_graph graph.MapKeys base folder nulls status ends
+promised (Invert base document out) status ends = λ files bytes triples told good held is few.
+    (inverts base document out files bytes triples good held is few status ends told, λ D text database graph_is. gives_back base document out files bytes triples good held is few D text database graph_is status ends told)
 promised (Show document) status ends = λ files bytes triples told held is few. shows document files bytes triples status ends told held is few
 promised (Clean folder out nulls) status ends = λ files D told held. cleans folder out nulls files D status ends told held
 promised (Consistent document) status ends = λ files bytes triples told held is few. (judges document files bytes triples status ends told held is few, tells_keys bytes triples is)

@@ -1,6 +1,6 @@
 -- Something comes of each command, over all files.
 use Rattle.std.proofs.Common.{◌≡◌, ◌∙◌, ◌++◌, ◌≤◌, arith, append_assoc, ⊎_elim, ℕ, ◌+◌, List, [], ◌∷◌, length, Option, Some, None, Result, Ok, Err, refl, true, false, Bool, nat_lt, subst, sym, cond, inl, inr}
-use Rattle.std.specs.Prelude.{MatchBool, encode_utf8_all, map, option_to_list}
+use Rattle.std.specs.Prelude.{IsTrue, MatchBool, encode_utf8_all, map, option_to_list}
 use Rattle.std.specs.List.{AllZip, flat_map}
 use Rattle.std.specs.FinMap.{get}
 use Rattle.std.proofs.lemmas.Bool.{cases_lt}
@@ -52,17 +52,19 @@ use Rattle.clean_dm.proofs.SomeCleaning.{cleaning_some}
 use Rattle.cmd_dm.specs.Clean.{clean_script, clean_work}
 use Rattle.cmd_dm.specs.Folder.{AreFilesOf, schema_file, shape_of, table_file}
 use Rattle.cmd_dm.specs.GraphScript.{graph_script}
+use Rattle.cmd_dm.specs.Invert.{files_work, invert_script}
+use Rattle.cmd_dm.proofs.Inverses.{inverse_answer_some}
 use Rattle.cmd_dm.specs.Plans.{IsOutcome}
 use Rattle.cmd_dm.specs.Questions.{IsSchemaAnswer, IsRowsAnswer, IsTriplesAnswer, graph_of, verdict_of, violations_of, files_of, left_of, removals_of}
 use Rattle.cmd_dm.specs.Reasons.{bad_base, cause_code, key_reason, reason}
 use Rattle.cmd_dm.specs.Script.{Script, Outcome, usage, refused, absent, too_long, done, text_work, AfterLoad, Comes, ask, refuse, write}
-use Rattle.cmd_dm.specs.Steps.{base_step, database_step, folder_step, graph_step, kept_step, keys_step, on_answer, on_violations, rows_step, schema_step, tables_step, triples_step}
+use Rattle.cmd_dm.specs.Steps.{base_step, database_step, folder_step, graph_step, inverse_step, kept_step, keys_step, on_answer, on_violations, rows_step, schema_step, tables_step, triples_step}
 use Rattle.cmd_dm.specs.Check.{check_text}
 use Rattle.cmd_dm.specs.Consistent.{consistent_script, verdict_text}
 use Rattle.cmd_dm.specs.Show.{show_script}
 use Rattle.cmd_dm.specs.declared.command.Command.{Command}
 use Rattle.cmd_dm.proofs.Subjects.{document_subjects}
-use Rattle.cmd_dm.specs.declared.command.Command.TheVariants.{Direct, Map, MapKeys, Check, Show, Consistent, Clean}
+use Rattle.cmd_dm.specs.declared.command.Command.TheVariants.{Direct, Map, MapKeys, Check, Show, Consistent, Clean, Invert}
 use Rattle.cmd_dm.specs.declared.status.File.{File}
 use Rattle.cmd_dm.specs.declared.status.File.TheVariants.{Schema, Table as TableFile, Graph}
 use Rattle.cmd_dm.specs.declared.status.Reason.{Reason}
@@ -269,6 +271,32 @@ clean_some files folder out nulls =
     let made = files_some out loaded.database.tables rows left.many in
     none (done (clean_work out loaded removals made.0)) (removals, (cleaning, (rows, (left, (made.0, (made.1, refl)))))))))
 
+base_some_good : (files : Files) (word : List ℕ) (next : List ℕ → Script) → (IsTrue (is_base word) → SomeComes files (next word)) → SomeComes files (base_step word next)
+unfolding base_step
+base_some_good files word next some = by_base (is_base word) (λ good. some good)
+  where
+    by_base : (good : Bool) → (good ≡ true → SomeComes files (next word)) → SomeComes files (cond good (next word) (refuse bad_base))
+    by_base true some none = some refl none
+    by_base false some none = none (refused bad_base) refl
+
+invert_some : (files : Files) (base name out : List ℕ) → SomeComes files (invert_script base name out)
+unfolding graph_step triples_step inverse_step
+invert_some files base name out =
+    let store : Batch → Script = λ stored. write (files_work stored) in
+    base_some_good files base (λ base. graph_step name (λ triples. inverse_step base triples out store)) (λ good.
+    some_loaded Graph (get files (encode_utf8_all name)) (λ bytes o. Comes files (triples_step bytes (λ triples. inverse_step base triples out store)) o)
+    (λ bytes none. triples_answer_some bytes (λ answer right. on_triples good store (λ stored none. none (done (files_work stored)) refl) answer (λ o comes. none o (answer, (right, comes))))))
+  where
+    on_inverse : (store : Batch → Script) → ((stored : Batch) → SomeComes files (store stored)) → (answer : Result Batch Reason) → SomeComes files (on_answer answer store)
+    on_inverse store some (Ok stored) none = some stored none
+    on_inverse store some (Err why) none = none (refused why) refl
+
+    on_triples : IsTrue (is_base base) → (store : Batch → Script) → ((stored : Batch) → SomeComes files (store stored)) → (answer : Result (List Statement) Reason)
+        → SomeComes files (on_answer answer (λ triples. inverse_step base triples out store))
+    on_triples good store some (Ok triples) none =
+        inverse_answer_some base good triples out (λ answer right. on_inverse store some answer (λ o comes. none o (answer, ((good, right), comes))))
+    on_triples good store some (Err why) none = none (refused why) refl
+
 -- something comes of words
 pub words_some : (files : Files) (command : Option Command) → ¬ ((outcome : Outcome) → ¬ IsOutcome files command outcome)
 words_some files None none = none usage refl
@@ -276,6 +304,7 @@ words_some files (Some (Direct base folder nulls)) none = graph_some files graph
 words_some files (Some (Map base folder nulls)) none = graph_some files graph.Map base folder nulls none
 words_some files (Some (MapKeys base folder nulls)) none = graph_some files graph.MapKeys base folder nulls none
 words_some files (Some (Clean folder out nulls)) none = clean_some files folder out nulls none
+words_some files (Some (Invert base name out)) none = invert_some files base name out none
 words_some files (Some (Show name)) none = show_some files name none
 words_some files (Some (Consistent name)) none = consistent_some files name none
 words_some files (Some (Check folder nulls)) none =

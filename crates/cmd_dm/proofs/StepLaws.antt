@@ -1,6 +1,6 @@
 -- What the steps do that read schemas, tables and keys.
-use Rattle.std.proofs.Common.{◌≡◌, ◌∙◌, refl, sym, ap, subst, arith, ℕ, suc, zero, ◌+◌, List, [], ◌∷◌, ◌++◌, drop, take, length, Some, Ok, Err, append-nil}
-use Rattle.std.specs.Prelude.{slice_get}
+use Rattle.std.proofs.Common.{◌≡◌, ◌∙◌, refl, sym, ap, subst, inl, inr, ◌⊎◌, arith, ℕ, suc, zero, ◌+◌, List, [], ◌∷◌, ◌++◌, drop, take, length, Some, Ok, Err, append-nil}
+use Rattle.std.specs.Prelude.{IsTrue, slice_get}
 use Rattle.std.specs.List.{AllZip}
 use Rattle.std.proofs.lemmas.List.{append_assoc, drop_all, take_more}
 use Rattle.std.proofs.lemmas.Option.{get_or_from_slice_get, slice_get_within}
@@ -12,7 +12,12 @@ use Rattle.schema_dm.specs.declared.table.Table.{Table}
 use Rattle.ddl_dm.specs.Schema.{IsDdl, IsDdlFault, IsSchemaRead}
 use Rattle.ddl_dm.specs.declared.ddl.DdlError.{DdlError}
 use Rattle.ddl_dm.specs.declared.ddl.DdlError.TheVariants as ddl
+use Rattle.names_dm.specs.Namespaces.{is_base}
 use Rattle.names_dm.specs.Statements.{Statement}
+use Rattle.inverse_dm.specs.Answers.{Refuses}
+use Rattle.inverse_dm.specs.declared.error.InverseError.{InverseError}
+use Rattle.inverse_dm.specs.declared.error.InverseError.TheVariants as inverse
+use Rattle.outside_dm.specs.Storing.{Batch}
 use Rattle.ntriples_reader_dm.specs.Answer.{IsAnswer}
 use Rattle.ntriples_reader_dm.specs.declared.fault.GraphError.{GraphError}
 use Rattle.ntriples_reader_dm.specs.declared.fault.GraphError.TheVariants as graph
@@ -25,14 +30,15 @@ use Rattle.table_csv.specs.declared.fault.TableError.TheVariants as table
 use Rattle.table_csv.proofs.Zips.{zipped_behind}
 use Rattle.cmd_dm.specs.Ending.{Target, Ends, Leads}
 use Rattle.cmd_dm.specs.Folder.{table_file}
-use Rattle.cmd_dm.specs.Questions.{schema_of, rows_of, triples_of}
-use Rattle.cmd_dm.specs.Reasons.{cause_code, ddl_status, graph_status, reason, table_status}
+use Rattle.cmd_dm.specs.Questions.{AreInverse, inverse_of, schema_of, rows_of, triples_of}
+use Rattle.cmd_dm.specs.Reasons.{cause_code, ddl_status, graph_status, inverse_status, reason, table_status}
 use Rattle.cmd_dm.specs.Script.{Script, load}
-use Rattle.cmd_dm.specs.Steps.{on_answer, rows_step, schema_step, tables_step, triples_step}
+use Rattle.cmd_dm.specs.Steps.{inverse_step, on_answer, rows_step, schema_step, tables_step, triples_step}
 use Rattle.cmd_dm.proofs.Endings.{ends_after, ends_memory, ends_refused, leads_ask, leads_refl}
 use Rattle.cmd_dm.specs.declared.status.File.TheVariants as file
 use Rattle.cmd_dm.specs.declared.status.Reason.{Reason}
-use Rattle.cmd_dm.specs.declared.status.Status.TheVariants.{Refused}
+use Rattle.cmd_dm.specs.declared.status.Status.{Status}
+use Rattle.cmd_dm.specs.declared.status.Status.TheVariants.{Memory, Refused}
 
 -- ---- schemas
 
@@ -98,6 +104,45 @@ pub triples_end : (bytes : List ℕ) (error : GraphError) → IsAnswer bytes (Er
 triples_end bytes (graph.BadLine line) h state target next out = triples_refuse bytes (graph.BadLine line) (reason 28 0 line 0) h refl state target next out
 triples_end bytes graph.TooManyTriples h state target next out = triples_refuse bytes graph.TooManyTriples (reason 29 0 0 0) h refl state target next out
 triples_end bytes graph.Memory h state target next out = ends_memory target (triples_step bytes next) state out
+
+-- ---- inverses
+
+-- memory ran out, or the triples are refused
+abbrev pub EndsInverse : List ℕ → List Statement → Status → Type 0
+EndsInverse base triples status = (status ≡ Memory) ⊎ ((error : InverseError) × Refuses base triples error × (status ≡ inverse_status error))
+
+pub inverse_told : (base : List ℕ) (triples : List Statement) (error : InverseError) (status : Status) → status ≡ inverse_status error → (error ≡ inverse.Memory) ⊎ Refuses base triples error → EndsInverse base triples status
+inverse_told base triples error status is (inl memory) = inl (is ∙ ap inverse_status memory)
+inverse_told base triples error status is (inr h) = inr (error, h, is)
+
+module _ (base : List ℕ) (good : IsTrue (is_base base)) (triples : List Statement) (folder : List ℕ) where
+  pub inverse_gives : (files : Batch) → AreInverse base triples folder files → (state : ShelfState) (next : Batch → Script) → Leads (inverse_step base triples folder next) state (next files) state
+  unfolding inverse_step
+  inverse_gives files are state next = leads_ask (inverse_of base triples folder) (Ok files) (λ answer. on_answer answer next) state (good, are)
+
+  inverse_refuses : (error : InverseError) (why : Reason) → Refuses base triples error → inverse_status error ≡ Refused why → (state : ShelfState) (target : Target) (next : Batch → Script) (out : SinkState) →
+      Ends target (inverse_step base triples folder next) state state out out (Refused why)
+  unfolding inverse_step
+  inverse_refuses error why refuses told state target next out =
+      ends_after (leads_ask (inverse_of base triples folder) (Err why) (λ answer. on_answer answer next) state (good, (error, refuses, told))) (ends_refused target why state out)
+
+  pub inverse_ends : (error : InverseError) → Refuses base triples error → (state : ShelfState) (target : Target) (next : Batch → Script) (out : SinkState) →
+      Ends target (inverse_step base triples folder next) state state out out (inverse_status error)
+  inverse_ends inverse.NoTables h state target next out = inverse_refuses inverse.NoTables (reason 44 0 0 0) h refl state target next out
+  inverse_ends (inverse.Unexplained place) h state target next out = inverse_refuses (inverse.Unexplained place) (reason 30 0 place 0) h refl state target next out
+  inverse_ends (inverse.TwoValues place) h state target next out = inverse_refuses (inverse.TwoValues place) (reason 31 0 place 0) h refl state target next out
+  inverse_ends (inverse.TwoTables place) h state target next out = inverse_refuses (inverse.TwoTables place) (reason 32 0 place 0) h refl state target next out
+  inverse_ends (inverse.NoKeyValue place) h state target next out = inverse_refuses (inverse.NoKeyValue place) (reason 33 0 place 0) h refl state target next out
+  inverse_ends inverse.TooManyTables h state target next out = inverse_refuses inverse.TooManyTables (reason 13 0 0 0) h refl state target next out
+  inverse_ends inverse.TooManyColumns h state target next out = inverse_refuses inverse.TooManyColumns (reason 14 0 0 0) h refl state target next out
+  inverse_ends inverse.TooManyRows h state target next out = inverse_refuses inverse.TooManyRows (reason 25 0 0 0) h refl state target next out
+  inverse_ends inverse.Memory h state target next out = absurd h
+
+  -- how a run ends without tables
+  pub ends_without : (status : Status) → EndsInverse base triples status → (state : ShelfState) (target : Target) (next : Batch → Script) (out : SinkState) →
+      Ends target (inverse_step base triples folder next) state state out out status
+  ends_without status (inl memory) state target next out = subst (λ (s : Status). Ends target (inverse_step base triples folder next) state state out out s) (sym memory) (ends_memory target (inverse_step base triples folder next) state out)
+  ends_without status (inr h) state target next out = subst (λ (s : Status). Ends target (inverse_step base triples folder next) state state out out s) (sym h.2) (inverse_ends h.0 h.1 state target next out)
 
 -- ---- tables
 

@@ -1,5 +1,5 @@
 -- The subjects of a document's triples are no literals.
-use Rattle.std.proofs.Common.{◌≡◌, ◌∙◌, ◌++◌, ℕ, List, [], ◌∷◌, Option, Some, None, false, sym, ap, subst, inl, inr, chars}
+use Rattle.std.proofs.Common.{◌≡◌, ◌∙◌, ℕ, List, [], ◌∷◌, Option, Some, None, false, sym, ap, subst, inl, inr}
 use Rattle.std.specs.Prelude.{option_to_list}
 use Rattle.members_dm.specs.Membership.{IsIn}
 use Rattle.members_dm.proofs.MembershipLemmas.{IsIn-append}

@@ -1,5 +1,7 @@
 -- The files of a folder that holds a database.
 use Rattle.std.specs.Prelude.{◌≡◌, ℕ, List, [], ◌∷◌, ◌++◌, codes, encode_utf8_all}
+use Rattle.ddl_dm.specs.Canonical.{canonical_text}
+use Rattle.inverse_dm.specs.Parts.{rows_of, shape_of as shapes_of}
 use Rattle.names_dm.specs.IriSafe.{safe_form}
 use Rattle.outside_dm.specs.Storing.{Batch}
 use Rattle.outside_dm.specs.declared.files.NamedFile.{NamedFile}
@@ -7,6 +9,7 @@ use Rattle.schema_dm.specs.declared.table.ShapeTable.{ShapeTable}
 use Rattle.schema_dm.specs.declared.table.Table.{Table}
 use Rattle.table_csv.specs.CanonicalText.{IsCanonicalText}
 use Rattle.table_csv.specs.Cells.{Row}
+use Rattle.table_csv.specs.Plain.{PlainTable}
 
 -- the names of a folder's files, in bytes
 abbrev pub schema_file : List ℕ → List ℕ
@@ -35,3 +38,9 @@ abbrev pub AreFilesOf : List ℕ → List ShapeTable → List (List Row) → Bat
 AreFilesOf folder [] [] [] = Unit {0}
 AreFilesOf folder (table ∷ tables) (rows ∷ lists) (entry ∷ files) = IsFileOf folder table rows entry × AreFilesOf folder tables lists files
 AreFilesOf folder _ _ _ = ⊥
+
+-- the files are those of tables without keys: the schema's by its canonical text, and then one for each table
+pub record AreFolderFiles (folder : List ℕ) (tables : List PlainTable) (files : Batch) : Type 0 where
+  pub entries : Batch
+  pub each : AreFilesOf folder (shapes_of tables) (rows_of tables) entries
+  pub is : files ≡ (schema_file folder, encode_utf8_all (canonical_text (shapes_of tables))) ∷ entries

@@ -11,11 +11,17 @@ use Rattle.names_dm.specs.Statements.{Statement}
 use Rattle.schema_dm.specs.declared.table.Table.{Table}
 use Rattle.outside_dm.specs.Shelves.{Files, ShelfState, longest}
 use Rattle.outside_dm.specs.Sinks.{SinkState}
-use Rattle.outside_dm.specs.Storing.{Batch}
+use Rattle.outside_dm.specs.Storing.{Batch, StoresAll}
+use Rattle.ddl_dm.specs.Canonical.{canonical_text, plain_table}
 use Rattle.ddl_dm.specs.Schema.{IsDdl}
 use Rattle.table_csv.specs.Cells.{Row}
 use Rattle.table_csv.specs.Databases.{Data, IsDatabase}
 use Rattle.table_csv.specs.TableFiles.{IsTableFile}
+use Rattle.table_csv.specs.CanonicalText.{IsFileOfSame}
+use Rattle.table_csv.specs.Plain.{IsPlain, PlainTable}
+use Rattle.inverse_dm.specs.Answers.{Refuses, StandsWithin}
+use Rattle.inverse_dm.specs.Parts.{shape_of as shapes_of}
+use Rattle.inverse_dm.specs.declared.error.InverseError.{InverseError}
 use Rattle.keys_dm.specs.Violations.{KeepsKeys, ViolatesAt}
 use Rattle.keys_dm.specs.declared.violation.Violation.{Violation}
 use Rattle.clean_dm.specs.Kept.{AreRowsOfPart, with_rows}
@@ -34,12 +40,12 @@ use Rattle.graphs_dm.specs.declared.graph_name.GraphName.TheVariants as graph
 use Rattle.cmd_dm.specs.Check.{check_text}
 use Rattle.cmd_dm.specs.Consistent.{verdict_text}
 use Rattle.cmd_dm.specs.Ending.{NoFault, Wrote}
-use Rattle.cmd_dm.specs.Folder.{schema_file, table_file, AreFilesOf, shape_of}
+use Rattle.cmd_dm.specs.Folder.{schema_file, table_file, AreFilesOf, AreFolderFiles, shape_of}
 use Rattle.cmd_dm.specs.Clean.{clean_work}
-use Rattle.cmd_dm.specs.Reasons.{key_reason}
+use Rattle.cmd_dm.specs.Reasons.{inverse_status, key_reason}
 use Rattle.cmd_dm.specs.Script.{Work}
 use Rattle.cmd_dm.specs.declared.command.Command.{Command}
-use Rattle.cmd_dm.specs.declared.command.Command.TheVariants.{Direct, Map, MapKeys, Check, Show, Consistent, Clean}
+use Rattle.cmd_dm.specs.declared.command.Command.TheVariants.{Direct, Map, MapKeys, Check, Show, Consistent, Clean, Invert}
 use Rattle.cmd_dm.specs.declared.status.Status.{Status}
 use Rattle.cmd_dm.specs.declared.status.Status.TheVariants.{Ok as Done, Refused, Memory}
 
@@ -121,6 +127,38 @@ pub record Cleans (out schema : List ℕ) (D : Data) (old new : ShelfState) (bef
   pub no_fault : EndsSo Done old new before after status
   pub written : status ≡ Done → (work : Work) × (IsCleanWork out schema D work × Wrote work old new before after)
 
+-- the entries are read, in the mode Plain, as the rows of the tables, each table's in some order
+abbrev pub AreReadBack : List PlainTable → Batch → Type 0
+AreReadBack [] [] = Unit {0}
+AreReadBack (plain ∷ tables) (entry ∷ entries) = IsFileOfSame plain.shape.columns plain.rows entry.1 × AreReadBack tables entries
+AreReadBack _ _ = ⊥
+
+-- the files are those of the tables in the folder, and they are read back: the schema's file declares the tables, and the others
+-- are their rows
+pub record AreStored (folder : List ℕ) (tables : List PlainTable) (files : Batch) : Type 0 where
+  pub are : AreFolderFiles folder tables files
+  pub declared : IsDdl (encode_utf8_all (canonical_text (shapes_of tables))) (map plain_table (shapes_of tables))
+  pub read : AreReadBack tables are.entries
+
+-- `invert`: without a fault the run ends well or for want of memory; and where it ends well, the files of the tables were stored
+pub record StoresTables (out : List ℕ) (tables : List PlainTable) (old new : ShelfState) (before after : SinkState) (status : Status) : Type 0 where
+  pub no_fault : EndsSo Done old new before after status
+  pub stored : status ≡ Done → (files : Batch) × (AreStored out tables files × StoresAll files old.files new.files)
+
+-- the tables are stored that the triples stand for; where they stand for none within the limits, the run is refused
+pub record Inverts (base out : List ℕ) (triples : List Statement) (old new : ShelfState) (before after : SinkState) (status : Status) : Type 0 where
+  pub stands : (tables : List PlainTable) → StandsWithin base triples tables → StoresTables out tables old new before after status
+  pub refused : (error : InverseError) → Refuses base triples error → EndsSo (inverse_status error) old new before after status
+
+-- the bytes are the text of the map graph of a database that keeps its keys, or of the map-keys graph of any
+abbrev pub IsGraphFile : List ℕ → Data → List ℕ → Type 0
+IsGraphFile base D bytes = (KeepsKeys D × IsGraphText graph.Map base D bytes) ⊎ IsGraphText graph.MapKeys base D bytes
+
+-- of such bytes the tables of the database are stored, without keys and NOT NULL, and with the rows of each table in some order
+pub record GivesBack (base out : List ℕ) (D : Data) (old new : ShelfState) (before after : SinkState) (status : Status) : Type 0 where
+  pub some : (plain : List PlainTable) × IsPlain D plain
+  pub stores : (plain : List PlainTable) → IsPlain D plain → StoresTables out plain old new before after status
+
 -- `show`: the lines of the triples in their written form, in their order, are written
 abbrev pub Shows : List Statement → ShelfState → ShelfState → SinkState → SinkState → Status → Type 0
 Shows triples old new before after status = WritesText (λ text. text ≡ flat_map triple_text triples) old new before after status
@@ -147,6 +185,10 @@ Promises (Check folder nulls) old new before after status =
     (files : Files) (D : Data) → old.files ≡ Some files → HoldsDatabase files folder nulls D → Checks D old new before after status
 Promises (Clean folder out nulls) old new before after status =
     (files : Files) (D : Data) → old.files ≡ Some files → (held : HoldsDatabase files folder nulls D) → Cleans out held.bytes D old new before after status
+Promises (Invert base name out) old new before after status =
+    (files : Files) (bytes : List ℕ) (triples : List Statement) → old.files ≡ Some files → IsTrue (is_base base) → HoldsFile files (encode_utf8_all name) bytes → IsDocument bytes triples → length triples ≤ limit
+    → Inverts base out triples old new before after status
+    × ((D : Data) → IsText base → IsDatabase D → IsGraphFile base D bytes → GivesBack base out D old new before after status)
 Promises (Show name) old new before after status =
     (files : Files) (bytes : List ℕ) (triples : List Statement) → old.files ≡ Some files → HoldsFile files (encode_utf8_all name) bytes → IsDocument bytes triples → length triples ≤ limit
     → Shows triples old new before after status

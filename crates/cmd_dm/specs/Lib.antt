@@ -15,3 +15,4 @@ pub mod Show
 pub mod Consistent
 pub mod Plans
 pub mod Headline
+pub mod Invert

@@ -7,13 +7,14 @@ use Rattle.cmd_dm.specs.Consistent.{consistent_script}
 use Rattle.cmd_dm.specs.Clean.{clean_script}
 use Rattle.cmd_dm.specs.GraphScript.{graph_script}
 use Rattle.cmd_dm.specs.Folder.{schema_file}
-use Rattle.cmd_dm.specs.Ending.{Target, to_both, to_output}
+use Rattle.cmd_dm.specs.Ending.{Target, to_both, to_output, to_shelf}
+use Rattle.cmd_dm.specs.Invert.{invert_script}
 use Rattle.cmd_dm.specs.Show.{show_script}
 use Rattle.cmd_dm.specs.Script.{Script, Outcome, usage, Comes}
 use Rattle.cmd_dm.specs.declared.status.File.{File}
 use Rattle.cmd_dm.specs.declared.status.File.TheVariants.{Schema, Graph}
 use Rattle.cmd_dm.specs.declared.command.Command.{Command}
-use Rattle.cmd_dm.specs.declared.command.Command.TheVariants.{Direct, Map, MapKeys, Check, Show, Consistent, Clean}
+use Rattle.cmd_dm.specs.declared.command.Command.TheVariants.{Direct, Map, MapKeys, Check, Show, Consistent, Clean, Invert}
 
 pub record Plan : Type 0 where
   pub target : Target
@@ -25,6 +26,7 @@ plan_of (Map base folder nulls) = record { target = to_output; script = graph_sc
 plan_of (MapKeys base folder nulls) = record { target = to_output; script = graph_script graph.MapKeys base folder nulls }
 plan_of (Check folder nulls) = record { target = to_output; script = check_script folder nulls }
 plan_of (Clean folder out nulls) = record { target = to_both; script = clean_script folder out nulls }
+plan_of (Invert base name out) = record { target = to_shelf; script = invert_script base name out }
 plan_of (Show name) = record { target = to_output; script = show_script name }
 plan_of (Consistent name) = record { target = to_output; script = consistent_script name }
 
@@ -45,6 +47,7 @@ file_of (Map base folder nulls) file = folder_file folder file
 file_of (MapKeys base folder nulls) file = folder_file folder file
 file_of (Check folder nulls) file = folder_file folder file
 file_of (Clean folder out nulls) file = folder_file folder file
+file_of (Invert base name out) file = graph_file name file
 file_of (Show name) file = graph_file name file
 file_of (Consistent name) file = graph_file name file
 

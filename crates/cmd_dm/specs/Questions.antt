@@ -1,9 +1,10 @@
 -- What a command asks of the bytes that it loaded and of what they mean, and which answers are right. No question has
 -- two right answers.
-use Rattle.std.specs.Prelude.{◌≡◌, ℕ, List, Result, Ok, Err}
+use Rattle.std.specs.Prelude.{◌≡◌, ℕ, IsTrue, List, Result, Ok, Err}
 use Rattle.members_dm.specs.Membership.{NoRepeats}
 use Rattle.members_dm.specs.Places.{IsListing}
 use Rattle.value_dm.specs.declared.mode.NullMode.{NullMode}
+use Rattle.names_dm.specs.Namespaces.{is_base}
 use Rattle.names_dm.specs.Statements.{Statement}
 use Rattle.ntriples_reader_dm.specs.Answer.{IsAnswer}
 use Rattle.ntriples_reader_dm.specs.declared.fault.GraphError.{GraphError}
@@ -14,6 +15,7 @@ use Rattle.ddl_dm.specs.declared.ddl.DdlError.{DdlError}
 use Rattle.ddl_dm.specs.Schema.{IsDdl, IsDdlFault}
 use Rattle.table_csv.specs.Cells.{Row}
 use Rattle.table_csv.specs.Databases.{Data}
+use Rattle.table_csv.specs.Plain.{PlainTable}
 use Rattle.table_csv.specs.TableFiles.{IsFirstFault, IsTableFile, records_of}
 use Rattle.table_csv.specs.declared.fault.TableError.{TableError}
 use Rattle.consistency_dm.specs.Conflicts.{IsVerdict}
@@ -27,8 +29,10 @@ use Rattle.schema_dm.specs.declared.table.ShapeTable.{ShapeTable}
 use Rattle.clean_dm.specs.Kept.{AreRowsOfPart}
 use Rattle.clean_dm.specs.Removing.{IsCleaning, IsLeft}
 use Rattle.clean_dm.specs.declared.removal.Removal.{Removal}
-use Rattle.cmd_dm.specs.Folder.{AreFilesOf}
-use Rattle.cmd_dm.specs.Reasons.{ddl_status, graph_status, table_status}
+use Rattle.inverse_dm.specs.Answers.{Refuses, StandsWithin}
+use Rattle.inverse_dm.specs.declared.error.InverseError.{InverseError}
+use Rattle.cmd_dm.specs.Folder.{AreFilesOf, AreFolderFiles}
+use Rattle.cmd_dm.specs.Reasons.{ddl_status, graph_status, inverse_status, table_status}
 use Rattle.cmd_dm.specs.declared.status.Reason.{Reason}
 use Rattle.cmd_dm.specs.declared.status.Status.TheVariants.{Refused}
 
@@ -51,6 +55,8 @@ pub data Question : Type 0 where
   left_of : Data → List Removal → Question
   -- the files of the tables with these rows in the folder
   files_of : List ℕ → List ShapeTable → List (List Row) → Question
+  -- the files in the folder of the tables that the triples stand for, where the base is one that IRIs can begin with
+  inverse_of : List ℕ → List Statement → List ℕ → Question
 
 -- what an answer to the question is: a value, or why the bytes are refused
 abbrev pub AnswerTo : Question → Type 0
@@ -63,6 +69,7 @@ AnswerTo (graph_of name base D) = List ℕ
 AnswerTo (removals_of D) = List Removal
 AnswerTo (left_of D removals) = List (List Row)
 AnswerTo (files_of folder tables rows) = Batch
+AnswerTo (inverse_of base triples folder) = Result Batch Reason
 
 abbrev pub IsSchemaAnswer : List ℕ → Result (List Table) Reason → Type 0
 IsSchemaAnswer bytes (Ok tables) = IsDdl bytes tables
@@ -77,6 +84,16 @@ abbrev pub IsTriplesAnswer : List ℕ → Result (List Statement) Reason → Typ
 IsTriplesAnswer bytes (Ok triples) = IsAnswer bytes (Ok triples)
 IsTriplesAnswer bytes (Err reason) = (error : GraphError) × IsAnswer bytes (Err error) × (graph_status error ≡ Refused reason)
 
+-- the files are those of tables that the triples stand for
+pub record AreInverse (base : List ℕ) (triples : List Statement) (folder : List ℕ) (files : Batch) : Type 0 where
+  pub tables : List PlainTable
+  pub stands : StandsWithin base triples tables
+  pub of_tables : AreFolderFiles folder tables files
+
+abbrev pub IsInverseAnswer : List ℕ → List Statement → List ℕ → Result Batch Reason → Type 0
+IsInverseAnswer base triples folder (Ok files) = AreInverse base triples folder files
+IsInverseAnswer base triples folder (Err reason) = (error : InverseError) × Refuses base triples error × (inverse_status error ≡ Refused reason)
+
 -- the answer is right
 abbrev pub Answers : (question : Question) → AnswerTo question → Type 0
 Answers (schema_of bytes) answer = IsSchemaAnswer bytes answer
@@ -88,3 +105,4 @@ Answers (graph_of name base D) text = IsGraphText name base D text
 Answers (removals_of D) removals = IsCleaning D removals
 Answers (left_of D removals) rows = AreRowsOfPart D (IsLeft removals) rows
 Answers (files_of folder tables rows) files = AreFilesOf folder tables rows files
+Answers (inverse_of base triples folder) answer = IsTrue (is_base base) × IsInverseAnswer base triples folder answer

@@ -7,6 +7,8 @@ use Rattle.ddl_dm.specs.declared.ddl.DdlError.{DdlError}
 use Rattle.ddl_dm.specs.declared.ddl.DdlError.TheVariants as ddl
 use Rattle.ntriples_reader_dm.specs.declared.fault.GraphError.{GraphError}
 use Rattle.ntriples_reader_dm.specs.declared.fault.GraphError.TheVariants as graph
+use Rattle.inverse_dm.specs.declared.error.InverseError.{InverseError}
+use Rattle.inverse_dm.specs.declared.error.InverseError.TheVariants as inverse
 use Rattle.table_csv.specs.declared.fault.TableError.{TableError}
 use Rattle.table_csv.specs.declared.fault.TableError.TheVariants as table
 use Rattle.keys_dm.specs.declared.violation.Violation.{Violation}
@@ -65,6 +67,18 @@ abbrev pub graph_status : GraphError → Status
 graph_status (graph.BadLine line) = Refused (reason 28 0 line 0)
 graph_status graph.TooManyTriples = Refused (reason 29 0 0 0)
 graph_status graph.Memory = Memory
+
+-- the status of triples that give no tables
+abbrev pub inverse_status : InverseError → Status
+inverse_status inverse.NoTables = Refused (reason 44 0 0 0)
+inverse_status (inverse.Unexplained place) = Refused (reason 30 0 place 0)
+inverse_status (inverse.TwoValues place) = Refused (reason 31 0 place 0)
+inverse_status (inverse.TwoTables place) = Refused (reason 32 0 place 0)
+inverse_status (inverse.NoKeyValue place) = Refused (reason 33 0 place 0)
+inverse_status inverse.TooManyTables = Refused (reason 13 0 0 0)
+inverse_status inverse.TooManyColumns = Refused (reason 14 0 0 0)
+inverse_status inverse.TooManyRows = Refused (reason 25 0 0 0)
+inverse_status inverse.Memory = Memory
 
 abbrev pub kind_reason : ℕ → ℕ → ViolationKind → Reason
 kind_reason table row NullKey = reason 42 table row 0

@@ -8,10 +8,11 @@ use Rattle.schema_dm.specs.declared.table.Table.{Table}
 use Rattle.table_csv.specs.Cells.{Row}
 use Rattle.table_csv.specs.Databases.{Data}
 use Rattle.keys_dm.specs.declared.violation.Violation.{Violation}
+use Rattle.outside_dm.specs.Storing.{Batch}
 use Rattle.graphs_dm.specs.declared.graph_name.GraphName.{GraphName}
 use Rattle.graphs_dm.specs.declared.graph_name.GraphName.TheVariants as graph
 use Rattle.cmd_dm.specs.Folder.{schema_file, table_file}
-use Rattle.cmd_dm.specs.Questions.{schema_of, rows_of, triples_of, violations_of}
+use Rattle.cmd_dm.specs.Questions.{inverse_of, schema_of, rows_of, triples_of, violations_of}
 use Rattle.cmd_dm.specs.Reasons.{bad_base, key_reason}
 use Rattle.cmd_dm.specs.Script.{Script, load, ask, refuse}
 use Rattle.cmd_dm.specs.declared.status.File.TheVariants as file
@@ -60,6 +61,10 @@ triples_step bytes next = ask (triples_of bytes) (λ answer. on_answer answer ne
 -- the triples of the file of this name
 unfoldable pub graph_step : List ℕ → (List Statement → Script) → Script
 graph_step name next = load file.Graph (encode_utf8_all name) (λ bytes. triples_step bytes next)
+
+-- the files in the folder of the tables that the triples stand for
+unfoldable pub inverse_step : List ℕ → List Statement → List ℕ → (Batch → Script) → Script
+inverse_step base triples folder next = ask (inverse_of base triples folder) (λ answer. on_answer answer next)
 
 -- goes on where no key is violated, or refuses for the first that is
 abbrev pub on_violations : List Violation → (Unit {0} → Script) → Script

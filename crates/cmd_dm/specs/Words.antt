@@ -7,7 +7,7 @@ use Rattle.value_dm.specs.declared.mode.NullMode.TheVariants.{Plain, EmptyNull}
 use Rattle.graphs_dm.specs.declared.graph_name.GraphName.{GraphName}
 use Rattle.graphs_dm.specs.declared.graph_name.GraphName.TheVariants as graph
 use Rattle.cmd_dm.specs.declared.command.Command.{Command}
-use Rattle.cmd_dm.specs.declared.command.Command.TheVariants.{Direct, Map, MapKeys, Check, Show, Consistent, Clean}
+use Rattle.cmd_dm.specs.declared.command.Command.TheVariants.{Direct, Map, MapKeys, Check, Show, Consistent, Clean, Invert}
 
 -- [empty-null]
 abbrev pub nulls_of : List (List ℕ) → Option NullMode
@@ -46,6 +46,11 @@ abbrev pub consistent_of : List (List ℕ) → Option Command
 consistent_of (name ∷ []) = Some (Consistent (chars name))
 consistent_of words = None
 
+-- BASE GRAPH OUT
+abbrev pub invert_of : List (List ℕ) → Option Command
+invert_of (base ∷ name ∷ out ∷ []) = Some (Invert (chars base) (chars name) (chars out))
+invert_of words = None
+
 -- the command that words stand for: its name, and then exactly its words
 abbrev pub command_of : List (List ℕ) → Option Command
 command_of [] = None
@@ -55,5 +60,6 @@ command_of (name ∷ words) =
     if bytes_eq name (codes "map-keys") then graph_words graph.MapKeys words else
     if bytes_eq name (codes "check") then check_of words else
     if bytes_eq name (codes "clean") then clean_of words else
+    if bytes_eq name (codes "invert") then invert_of words else
     if bytes_eq name (codes "show") then show_of words else
     if bytes_eq name (codes "consistent") then consistent_of words else None

@@ -61,6 +61,18 @@ pub enum Command {
         nulls: NullMode,
     },
 
+    /// Stores the tables that the triples of a file of N-Triples stand for.
+    Invert {
+        /// What the graph's IRIs begin with.
+        base: Text,
+
+        /// The name of the file.
+        graph: Text,
+
+        /// The folder in which the files are stored.
+        out: Text,
+    },
+
     /// Writes each triple of a file of N-Triples in its written form.
     Show {
         /// The name of the file.

@@ -9,6 +9,7 @@ mod consistent;
 mod fault_line;
 mod folder;
 mod graphs;
+mod invert;
 mod reasons;
 mod show;
 mod status;

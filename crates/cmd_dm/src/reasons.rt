@@ -1,8 +1,9 @@
 ghost use Rattle.std.specs.Prelude.{◌≡◌};
-ghost use Rattle.cmd_dm.specs.Reasons.{cause_code, ddl_status, graph_status, key_reason, table_status};
+ghost use Rattle.cmd_dm.specs.Reasons.{cause_code, ddl_status, graph_status, inverse_status, key_reason, table_status};
 
 use crate::status::{Reason, Status};
 use ddl_dm::DdlError;
+use inverse_dm::InverseError;
 use keys_dm::{Violation, ViolationKind};
 use ntriples_reader_dm::GraphError;
 use schema_dm::SchemaCause;
@@ -81,6 +82,23 @@ pub(crate) fn graph_status(error: GraphError) -> Status
         GraphError::BadLine(line) => refused(28, 0, line, 0),
         GraphError::TooManyTriples => refused(29, 0, 0, 0),
         GraphError::Memory => Status::Memory,
+    }
+}
+
+/// The status of triples that give no tables.
+pub(crate) fn inverse_status(error: InverseError) -> Status
+    ensures { result ≡ inverse_status error }
+{
+    match error {
+        InverseError::NoTables => refused(44, 0, 0, 0),
+        InverseError::Unexplained(place) => refused(30, 0, place, 0),
+        InverseError::TwoValues(place) => refused(31, 0, place, 0),
+        InverseError::TwoTables(place) => refused(32, 0, place, 0),
+        InverseError::NoKeyValue(place) => refused(33, 0, place, 0),
+        InverseError::TooManyTables => refused(13, 0, 0, 0),
+        InverseError::TooManyColumns => refused(14, 0, 0, 0),
+        InverseError::TooManyRows => refused(25, 0, 0, 0),
+        InverseError::Memory => Status::Memory,
     }
 }
 

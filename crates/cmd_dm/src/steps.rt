@@ -1,4 +1,4 @@
-ghost use Rattle.std.specs.Prelude.{◌≡◌, ◌<◌, ◌^◌, ◌+◌, IfOk, length};
+ghost use Rattle.std.specs.Prelude.{◌≡◌, ◌<◌, ◌≤◌, ◌^◌, ◌+◌, IfOk, length};
 ghost use Rattle.std.specs.List.{AllZip};
 ghost use Rattle.members_dm.specs.Membership.{NoRepeats};
 ghost use Rattle.schema_dm.specs.Naming.{column_names};
@@ -161,7 +161,8 @@ pub(crate) fn read_database<S: Shelf>(
 /// Reads the triples of a document as the next step.
 #[tactic(auto, unfolding(crate::specs::Steps::triples_step))]
 fn read_triples(alloc: Global, bytes: &Bytes) -> Result<Triples, Status>
-    ensures { PureStep (triples_step bytes.now) result }
+    ensures step { PureStep (triples_step bytes.now) result }
+    ensures few { IfOk result (λ triples. length triples ≤ 16777216) }
 {
     match read_graph(alloc, bytes.as_slice()) {
         Ok(triples) => Ok(triples),
@@ -176,7 +177,8 @@ pub(crate) fn load_graph<S: Shelf>(
     name: &Text,
     shelf: &mut S,
 ) -> Result<Triples, Status>
-    ensures { Step (graph_step name.now) (S.state shelf.old) (S.state shelf.new) result }
+    ensures step { Step (graph_step name.now) (S.state shelf.old) (S.state shelf.new) result }
+    ensures few { IfOk result (λ triples. length triples ≤ 16777216) }
 {
     let bytes = load_file(alloc, File::Graph, name.as_str(), shelf)?;
     read_triples(alloc, &bytes)

@@ -5,9 +5,11 @@ ghost use Rattle.schema_dm.specs.declared.table.ShapeTable.{ShapeTable as Shape}
 ghost use Rattle.table_csv.specs.CanonicalText.{AreTextColumns};
 ghost use Rattle.table_csv.specs.Cells.{AreRowsOf};
 ghost use Rattle.members_dm.specs.Membership.{IsIn};
-ghost use Rattle.cmd_dm.specs.Ending.{Ends, result_status, to_both};
+ghost use Rattle.cmd_dm.specs.Ending.{Ends, result_status, to_both, to_shelf};
 ghost use Rattle.cmd_dm.specs.Folder.{AreFilesOf, IsFileOf, entry_of, schema_file, shape_of};
+ghost use Rattle.cmd_dm.specs.Invert.{files_work};
 ghost use Rattle.cmd_dm.specs.Script.{write};
+ghost use Rattle.outside_dm.specs.Sinks.{SinkState};
 
 use crate::folder::{schema_file, table_file};
 use crate::graphs::end_of_puts;
@@ -93,6 +95,18 @@ pub(crate) fn store_all<S: Shelf>(files: &[NamedFile], shelf: &mut S) -> Result<
         shelf.store(file.name.as_str(), file.bytes.as_slice())?;
     }
     Ok(())
+}
+
+/// Stores files in order, and puts nothing.
+pub(crate) fn store_work<S: Shelf>(files: &[NamedFile], shelf: &mut S) -> Result<(), Status>
+    ensures { (out : SinkState) → Ends to_shelf (write (files_work (map entry_of files.now)))
+        (S.state shelf.old) (S.state shelf.new) out out (result_status result) }
+{
+    match store_all(files, shelf) {
+        Ok(()) => Ok(()),
+        Err(StoreError::Failed) => Err(Status::WriteFault),
+        Err(StoreError::Memory) => Err(Status::Memory),
+    }
 }
 
 /// Stores files in order, and then puts a text.

@@ -14,6 +14,7 @@ use crate::command::Command;
 use crate::consistent::run_consistent;
 use crate::fault_line::tell;
 use crate::graphs::run_graph;
+use crate::invert::run_invert;
 use crate::show::run_show;
 use crate::status::Status;
 use crate::words::{WordError, read_words};
@@ -53,6 +54,11 @@ fn run_command<S: Shelf, K: Sink>(
             out: stored,
             nulls,
         } => run_clean(alloc, folder, stored, *nulls, shelf, out),
+        Command::Invert {
+            base,
+            graph,
+            out: stored,
+        } => run_invert(alloc, base, graph, stored, shelf),
         Command::Show { graph } => run_show(alloc, graph, shelf, out),
         Command::Consistent { graph } => run_consistent(alloc, graph, shelf, out),
     }

@@ -1,5 +1,5 @@
 ghost use Rattle.std.specs.Prelude.{◌≡◌, ◌↔◌, Some, None, IfOk, IfErr, IsErrOf, chars, map, string_bytes};
-ghost use Rattle.cmd_dm.specs.Words.{check_of, command_of, consistent_of, graph_command, graph_words, nulls_of, show_of, clean_of};
+ghost use Rattle.cmd_dm.specs.Words.{check_of, command_of, consistent_of, graph_command, graph_words, invert_of, nulls_of, show_of, clean_of};
 ghost use Rattle.cmd_dm.specs.declared.words.WordError.TheVariants.{Memory, Usage};
 
 use crate::command::Command;
@@ -127,6 +127,22 @@ fn read_clean(alloc: Global, words: &[String]) -> Result<Command, WordError>
     }
 }
 
+/// The words behind `invert`.
+fn read_invert(alloc: Global, words: &[String]) -> Result<Command, WordError>
+    ensures ok { IfOk result (λ command. invert_of (map string_bytes words.now) ≡ Some command) }
+    ensures usage { IsErrOf result WordError.Usage ↔ (invert_of (map string_bytes words.now) ≡ None) }
+{
+    match words {
+        [base, graph, out] => {
+            let base = text_of(alloc, base)?;
+            let graph = text_of(alloc, graph)?;
+            let out = text_of(alloc, out)?;
+            Ok(Command::Invert { base, graph, out })
+        }
+        _ => Err(WordError::Usage),
+    }
+}
+
 /// The words behind `show`.
 fn read_show(alloc: Global, words: &[String]) -> Result<Command, WordError>
     ensures ok { IfOk result (λ command. show_of (map string_bytes words.now) ≡ Some command) }
@@ -172,6 +188,8 @@ pub fn read_words(alloc: Global, words: &[String]) -> Result<Command, WordError>
                 read_check(alloc, rest)
             } else if name.as_str() == "clean" {
                 read_clean(alloc, rest)
+            } else if name.as_str() == "invert" {
+                read_invert(alloc, rest)
             } else if name.as_str() == "show" {
                 read_show(alloc, rest)
             } else if name.as_str() == "consistent" {

@@ -1,0 +1,4 @@
+pub mod MadeLimits
+pub mod OneAnswer
+pub mod SameLimits
+pub mod TableParts
