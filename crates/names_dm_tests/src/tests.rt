@@ -3,19 +3,69 @@ use names_dm::{
     Term, Triple, Triples, Var, Vars, column_iri, read_column_iri, read_ref_iri, read_rel_iri,
     read_table_iri, ref_iri, rel_iri, row_iri, row_label, safe, table_iri, unsafe_of, variable,
 };
-use std::alloc::{AllocError, Global};
+use std::alloc::Global;
 use std::test::Fail;
 use value_dm::{Names, Text, TryCopy, Value};
 
-const BASE: &str = "http://foo.example/DB/";
-
-fn text(alloc: Global, letters: &str) -> Result<Text, AllocError> {
-    Text::from_str(alloc, letters)
+fn text(alloc: Global, letters: &str) -> Option<Text> {
+    Text::from_str(alloc, letters).ok()
 }
 
-// A name, and after `|` its safe form, on each line.
-fn forms() -> &'static str {
-    "a b/c|a%20b%2Fc
+fn iri(alloc: Global, letters: &str) -> Option<Iri> {
+    Iri::new(text(alloc, letters)?)
+}
+
+fn label(alloc: Global, letters: &str) -> Option<Label> {
+    Label::new(text(alloc, letters)?)
+}
+
+fn tag(alloc: Global, letters: &str) -> Option<Tag> {
+    Tag::new(text(alloc, letters)?)
+}
+
+fn var(alloc: Global, letters: &str) -> Option<Var> {
+    Var::new(text(alloc, letters)?)
+}
+
+fn base_of(alloc: Global, letters: &str) -> Option<Base> {
+    Base::new(text(alloc, letters)?).ok()
+}
+
+fn base(alloc: Global) -> Option<Base> {
+    base_of(alloc, "http://foo.example/DB/")
+}
+
+fn safe_form(alloc: Global, name: &str) -> Option<String> {
+    safe(alloc, name).ok()
+}
+
+// The name of a safe form, and `NotSafe` of any other text.
+fn name_of(alloc: Global, form: &str) -> Option<String> {
+    match unsafe_of(alloc, form) {
+        Ok(name) => Some(name),
+        Err(fault) => format!(in alloc; "{fault:?}").ok(),
+    }
+}
+
+fn is_text(found: Option<String>, expected: &str) -> bool {
+    match found {
+        Some(text) => text.as_str() == expected,
+        None => false,
+    }
+}
+
+// A name and its safe form, `|` between them.
+fn is_pair(alloc: Global, pair: &str) -> bool {
+    match pair.split_once('|') {
+        Some((name, form)) => {
+            is_text(safe_form(alloc, name), form) & is_text(name_of(alloc, form), name)
+        }
+        None => is_text(name_of(alloc, pair), "NotSafe"),
+    }
+}
+
+// Names and their safe forms, and then texts that are none.
+const FORMS: &str = "a b/c|a%20b%2Fc
 é|é
 x;y=z|x%3By%3Dz
 100%|100%25
@@ -30,205 +80,114 @@ az AZ-._~|az%20AZ-._~
 \u{1FFFD}\u{1FFFE}|\u{1FFFD}%F0%9F%BF%BE
 \u{DFFFD}\u{E0FFF}|\u{DFFFD}%F3%A0%BF%BF
 \u{E1000}\u{EFFFD}|\u{E1000}\u{EFFFD}
-\u{EFFFE}\u{10FFFF}|%F3%AF%BF%BE%F4%8F%BF%BF"
-}
+\u{EFFFE}\u{10FFFF}|%F3%AF%BF%BE%F4%8F%BF%BF
+%41
+%2f
+%C3%A9
+\u{E000}
+%
+%FF
+a b";
 
-fn unsafe_forms() -> &'static str {
-    "%41|%2f|%C3%A9|\u{E000}|%|%FF|a b"
-}
-
-fn safe_form(alloc: Global, name: &str) -> Result<String, Fail> {
-    Ok(safe(alloc, name)?)
-}
-
-fn name_of(alloc: Global, form: &str) -> Result<String, Fail> {
-    match unsafe_of(alloc, form) {
-        Ok(name) => Ok(name),
-        Err(fault) => Ok(format!(in alloc; "{fault:?}")?),
+fn variable_of(alloc: Global, name: &str) -> Option<Var> {
+    if name.is_empty() {
+        None
+    } else {
+        variable(alloc, name).ok()
     }
 }
+
+fn row_label_of(alloc: Global) -> Option<Label> {
+    row_label(alloc, 1, 20).ok()
+}
+
+// A name and its variable, `|` between them; or the label of row 20 of table 1.
+fn is_named(alloc: Global, pair: &str) -> bool {
+    match pair.split_once('|') {
+        Some((name, expected)) => match variable_of(alloc, name) {
+            Some(found) => found.as_str() == expected,
+            None => false,
+        },
+        None => match row_label_of(alloc) {
+            Some(found) => found.as_str() == pair,
+            None => false,
+        },
+    }
+}
+
+const NAMED: &str = "ID|ID
+a_b|a_5Fb
+é |_C3_A9_20
+_r|_5Fr
+t1r20";
+
+fn is_word(alloc: Global, sort: char, word: &str) -> bool {
+    match sort {
+        'l' => label(alloc, word).is_some(),
+        'b' => base_of(alloc, word).is_some(),
+        'i' => iri(alloc, word).is_some(),
+        't' => tag(alloc, word).is_some(),
+        _ => var(alloc, word).is_some(),
+    }
+}
+
+// A text behind the letter of what it is, or behind a capital letter where it is none.
+fn is_told(alloc: Global, word: &str) -> bool {
+    let mut letters = word.chars();
+    let sort = letters.next().unwrap_or(' ');
+    let lowercase = sort.to_ascii_lowercase();
+    is_word(alloc, lowercase, letters.as_str()) == (sort == lowercase)
+}
+
+// Labels, bases, IRIs, tags and variables, `|` between them.
+const WORDS: &str = "la|l_9|l9|l:|lz.1|lz..1|la-|la\u{B7}|l\u{C0}\u{D6}\u{D8}\u{F6}\u{F8}\u{2FF}|\
+    la\u{300}\u{36F}\u{370}\u{37D}\u{37F}\u{1FFF}|l\u{200C}\u{200D}|la\u{203F}\u{2040}|\
+    l\u{2070}\u{218F}\u{2C00}\u{2FEF}\u{3001}\u{D7FF}|l\u{F900}\u{FDCF}\u{FDF0}\u{FFFD}|\
+    l\u{10000}\u{EFFFF}|L|L-a|Lz.|L.z|L\u{B7}|L\u{BF}|L\u{D7}|L\u{F7}|L\u{300}|L\u{36F}|\
+    L\u{37E}|L\u{2000}|L\u{200B}|L\u{200E}|L\u{203F}|L\u{2040}|L\u{206F}|L\u{2190}|L\u{2BFF}|\
+    L\u{2FF0}|L\u{3000}|L\u{E000}|L\u{FDD0}|L\u{FFFE}|L\u{F0000}|bhttp://foo.example/DB/|bx|\
+    bhttp://a/%4|bhttp://www.w3.org/2001/XMLSchema/|B|Bh|Bhttp://a b/|\
+    Bhttp://www.w3.org/2001/XMLSchema|Bhttp://www.w3.org/2001/XMLSchema#|\
+    Bhttp://www.w3.org/2001/XMLSchema#x|Bhttp://www.w3.org/2002/07/|\
+    Bhttp://www.w3.org/1999/02/22-rdf-syntax-ns#a|Bhttp://www.w3.org/2000/01/rdf-schema|i|ia!é|\
+    i\u{7F}|Ia\u{20}|Ia<|Ia\\|I\u{0}|ten|ten-GB|ten-1-a9|T|Te1|Ten-|T-en|Ten--a|Té|vID|v_5F|v9|\
+    V|Va-b|Vé";
 
 #[test]
-fn safe_forms(rt: HostRuntime) -> Result<(), Fail> {
-    let alloc = rt.alloc();
-    for line in forms().lines() {
-        let (name, form) = line.split_once('|').ok_or("no form")?;
-        assert_eq!(rt; safe_form(alloc, name)?.as_str(), form);
-        assert_eq!(rt; name_of(alloc, form)?.as_str(), name);
-    }
-    for form in unsafe_forms().split('|') {
-        assert_eq!(rt; name_of(alloc, form)?.as_str(), "NotSafe");
-    }
-    Ok(())
-}
-
-fn good_labels() -> &'static str {
-    "a _9 9 : z.1 z..1 a- a\u{B7} \u{C0}\u{D6}\u{D8}\u{F6}\u{F8}\u{2FF} a\u{300}\u{36F}\u{370}\u{37D}\u{37F}\u{1FFF} \u{200C}\u{200D} a\u{203F}\u{2040} \u{2070}\u{218F}\u{2C00}\u{2FEF}\u{3001}\u{D7FF} \u{F900}\u{FDCF}\u{FDF0}\u{FFFD} \u{10000}\u{EFFFF}"
-}
-
-fn bad_labels() -> &'static str {
-    "|-a|z.|.z|\u{B7}|\u{BF}|\u{D7}|\u{F7}|\u{300}|\u{36F}|\u{37E}|\u{2000}|\u{200B}|\u{200E}|\u{203F}|\u{2040}|\u{206F}|\u{2190}|\u{2BFF}|\u{2FF0}|\u{3000}|\u{E000}|\u{FDD0}|\u{FFFE}|\u{F0000}"
-}
-
-fn is_label(alloc: Global, letters: &str) -> Result<bool, Fail> {
-    Ok(Label::new(text(alloc, letters)?).is_some())
-}
-
-#[test]
-fn labels(rt: HostRuntime) -> Result<(), Fail> {
-    let alloc = rt.alloc();
-    for letters in good_labels().split(' ') {
-        assert!(rt; is_label(alloc, letters)?, "{letters}");
-    }
-    for letters in bad_labels().split('|') {
-        assert!(rt; !is_label(alloc, letters)?, "{letters}");
-    }
-    Ok(())
-}
-
-fn good_bases() -> &'static str {
-    "http://foo.example/DB/ x http://a/%4 http://www.w3.org/2001/XMLSchema/"
-}
-
-fn bad_bases() -> &'static str {
-    "|h|http://a b/|http://www.w3.org/2001/XMLSchema|http://www.w3.org/2001/XMLSchema#|http://www.w3.org/2001/XMLSchema#x|http://www.w3.org/2002/07/|http://www.w3.org/1999/02/22-rdf-syntax-ns#a|http://www.w3.org/2000/01/rdf-schema"
-}
-
-fn is_base(alloc: Global, letters: &str) -> Result<bool, Fail> {
-    Ok(Base::new(text(alloc, letters)?).is_ok())
-}
-
-#[test]
-fn bases(rt: HostRuntime) -> Result<(), Fail> {
-    let alloc = rt.alloc();
-    for letters in good_bases().split(' ') {
-        assert!(rt; is_base(alloc, letters)?, "{letters}");
-    }
-    for letters in bad_bases().split('|') {
-        assert!(rt; !is_base(alloc, letters)?, "{letters}");
-    }
-    Ok(())
-}
-
-fn base(alloc: Global) -> Result<Base, Fail> {
-    Ok(Base::new(text(alloc, BASE)?).ok().ok_or("no base")?)
-}
-
-fn table(alloc: Global, name: &str) -> Result<Iri, Fail> {
-    Ok(table_iri(alloc, &base(alloc)?, name)?)
-}
-
-fn column(alloc: Global, table: &str, name: &str) -> Result<Iri, Fail> {
-    Ok(column_iri(alloc, &base(alloc)?, table, name)?)
-}
-
-#[test]
-fn tables_and_columns(rt: HostRuntime) -> Result<(), Fail> {
-    let alloc = rt.alloc();
-    let addresses = table(alloc, "Addresses")?;
-    assert_eq!(rt; addresses.as_str(), "http://foo.example/DB/Addresses");
-    let spelled = column(alloc, "a b/c", "x;y=z")?;
-    assert_eq!(rt;
-        spelled.as_str(),
-        "http://foo.example/DB/a%20b%2Fc#x%3By%3Dz"
-    );
-    Ok(())
-}
-
-fn good_iris() -> &'static str {
-    "|a!é|\u{7F}"
-}
-
-fn bad_iris() -> &'static str {
-    "a\u{20}|a<|a\\|\u{0}"
-}
-
-fn good_tags() -> &'static str {
-    "en en-GB en-1-a9"
-}
-
-fn bad_tags() -> &'static str {
-    "|e1|en-|-en|en--a|é"
-}
-
-fn good_variables() -> &'static str {
-    "ID _5F 9"
-}
-
-fn bad_variables() -> &'static str {
-    "|a-b|é"
-}
-
-fn is_iri(alloc: Global, letters: &str) -> Result<bool, Fail> {
-    Ok(Iri::new(text(alloc, letters)?).is_some())
-}
-
-fn is_tag(alloc: Global, letters: &str) -> Result<bool, Fail> {
-    Ok(Tag::new(text(alloc, letters)?).is_some())
-}
-
-fn is_variable(alloc: Global, letters: &str) -> Result<bool, Fail> {
-    Ok(Var::new(text(alloc, letters)?).is_some())
-}
-
-#[test]
-fn iris(rt: HostRuntime) -> Result<(), Fail> {
-    let alloc = rt.alloc();
-    for letters in good_iris().split('|') {
-        assert!(rt; is_iri(alloc, letters)?, "{letters}");
-    }
-    for letters in bad_iris().split('|') {
-        assert!(rt; !is_iri(alloc, letters)?, "{letters}");
+fn words(rt: HostRuntime) -> Result<(), Fail> {
+    for word in WORDS.split('|') {
+        let found = is_told(rt.alloc(), word);
+        assert!(rt; found, "{word}");
     }
     Ok(())
 }
 
 #[test]
-fn tags(rt: HostRuntime) -> Result<(), Fail> {
-    let alloc = rt.alloc();
-    for letters in good_tags().split(' ') {
-        assert!(rt; is_tag(alloc, letters)?, "{letters}");
+fn names(rt: HostRuntime) -> Result<(), Fail> {
+    for pair in FORMS.lines() {
+        let found = is_pair(rt.alloc(), pair);
+        assert!(rt; found, "{pair}");
     }
-    for letters in bad_tags().split('|') {
-        assert!(rt; !is_tag(alloc, letters)?, "{letters}");
-    }
-    Ok(())
-}
-
-#[test]
-fn variables(rt: HostRuntime) -> Result<(), Fail> {
-    let alloc = rt.alloc();
-    for letters in good_variables().split(' ') {
-        assert!(rt; is_variable(alloc, letters)?, "{letters}");
-    }
-    for letters in bad_variables().split('|') {
-        assert!(rt; !is_variable(alloc, letters)?, "{letters}");
+    for pair in NAMED.lines() {
+        let found = is_named(rt.alloc(), pair);
+        assert!(rt; found, "{pair}");
     }
     Ok(())
 }
 
-fn list(alloc: Global, one: &str, other: &str) -> Result<Names, AllocError> {
+fn add_name(alloc: Global, names: &mut Names, name: &str) -> Option<()> {
+    names.push(text(alloc, name)?).ok()
+}
+
+fn columns(alloc: Global) -> Option<Names> {
     let mut names = Names::new(alloc);
-    names.push(text(alloc, one)?)?;
-    names.push(text(alloc, other)?)?;
-    Ok(names)
+    add_name(alloc, &mut names, "x")?;
+    add_name(alloc, &mut names, "y")?;
+    Some(names)
 }
 
-fn reference(alloc: Global, table: &str, columns: &Names) -> Result<Iri, Fail> {
-    Ok(ref_iri(alloc, &base(alloc)?, table, columns)?)
-}
-
-#[test]
-fn references(rt: HostRuntime) -> Result<(), Fail> {
-    let alloc = rt.alloc();
-    let columns = list(alloc, "x", "y")?;
-    let spelled = reference(alloc, "Q", &columns)?;
-    assert_eq!(rt; spelled.as_str(), "http://foo.example/DB/Q#ref-x;y");
-    Ok(())
-}
-
-fn enrolled(alloc: Global) -> Result<RelName, AllocError> {
-    Ok(RelName {
+fn enrolled(alloc: Global) -> Option<RelName> {
+    Some(RelName {
         table: text(alloc, "Enrolled")?,
         left: text(alloc, "student")?,
         left_target: text(alloc, "id")?,
@@ -237,423 +196,432 @@ fn enrolled(alloc: Global) -> Result<RelName, AllocError> {
     })
 }
 
-fn relation(alloc: Global, name: &RelName) -> Result<Iri, Fail> {
-    Ok(rel_iri(alloc, &base(alloc)?, name)?)
+fn add_part(alloc: Global, key: &mut KeyParts, column: &str, value: Value) -> Option<()> {
+    let column = text(alloc, column)?;
+    key.push(KeyPart { column, value }).ok()
+}
+
+// A key of the columns `a`, with this value, and `b`, with the text `z`.
+fn key(alloc: Global, value: Value) -> Option<KeyParts> {
+    let mut key = KeyParts::new(alloc);
+    add_part(alloc, &mut key, "a", value)?;
+    add_part(alloc, &mut key, "b", Value::Text(text(alloc, "z")?))?;
+    Some(key)
+}
+
+fn table(alloc: Global, base: &Base) -> Option<Iri> {
+    table_iri(alloc, base, "Addresses").ok()
+}
+
+fn column(alloc: Global, base: &Base) -> Option<Iri> {
+    column_iri(alloc, base, "a b/c", "x;y=z").ok()
+}
+
+fn reference(alloc: Global, base: &Base) -> Option<Iri> {
+    ref_iri(alloc, base, "Q", &columns(alloc)?).ok()
+}
+
+fn relation(alloc: Global, base: &Base) -> Option<Iri> {
+    rel_iri(alloc, base, &enrolled(alloc)?).ok()
+}
+
+fn row(alloc: Global, base: &Base, key: Option<KeyParts>) -> Option<Iri> {
+    row_iri(alloc, base, "K", &key?).ok()
+}
+
+fn text_row(alloc: Global, base: &Base, letters: &str) -> Option<Iri> {
+    row(alloc, base, key(alloc, Value::Text(text(alloc, letters)?)))
+}
+
+fn spelled(alloc: Global, base: &Base, case: u32) -> Option<Iri> {
+    match case {
+        0 => table(alloc, base),
+        1 => column(alloc, base),
+        2 => reference(alloc, base),
+        3 => relation(alloc, base),
+        4 => text_row(alloc, base, "x;b=y"),
+        5 => text_row(alloc, base, ""),
+        _ => row(alloc, base, key(alloc, Value::Integer(18))),
+    }
+}
+
+fn is_spelled(alloc: Global, case: u32, expected: &str) -> bool {
+    match base(alloc) {
+        Some(base) => is_iri(spelled(alloc, &base, case), expected),
+        None => false,
+    }
+}
+
+fn is_iri(found: Option<Iri>, expected: &str) -> bool {
+    match found {
+        Some(iri) => iri.as_str() == expected,
+        None => false,
+    }
+}
+
+fn expected_iri(case: u32) -> &'static str {
+    match case {
+        0 => "http://foo.example/DB/Addresses",
+        1 => "http://foo.example/DB/a%20b%2Fc#x%3By%3Dz",
+        2 => "http://foo.example/DB/Q#ref-x;y",
+        3 => "http://foo.example/DB/Enrolled#rel-student=id;course=code",
+        4 => "http://foo.example/DB/K/a=x%3Bb%3Dy;b=z",
+        5 => "http://foo.example/DB/K/a=;b=z",
+        _ => "http://foo.example/DB/K/a=18;b=z",
+    }
 }
 
 #[test]
-fn relations(rt: HostRuntime) -> Result<(), Fail> {
-    let alloc = rt.alloc();
-    let name = enrolled(alloc)?;
-    let spelled = relation(alloc, &name)?;
-    assert_eq!(rt;
-        spelled.as_str(),
-        "http://foo.example/DB/Enrolled#rel-student=id;course=code"
-    );
+fn spelled_iris(rt: HostRuntime) -> Result<(), Fail> {
+    for case in 0..7 {
+        let found = is_spelled(rt.alloc(), case, expected_iri(case));
+        assert!(rt; found, "{case}");
+    }
     Ok(())
 }
 
-fn iri(alloc: Global, letters: &str) -> Result<Iri, Fail> {
-    Ok(Iri::new(text(alloc, letters)?).ok_or("no IRI")?)
+fn push_word(out: &mut String, word: &Text) -> Option<()> {
+    out.push(' ').ok()?;
+    out.push_str(word.as_str()).ok()
 }
 
-// Behind the base, and what the readers of tables, columns, references and relations tell, `-` for nothing.
-fn told() -> &'static str {
-    "Addresses|Addresses|-|-|-
-People|People|-|-|-
-Addresses#ID|-|Addresses ID|-|-
-People#fname|-|People fname|-|-
-People#addr|-|People addr|-|-
-People#ref-addr|-|People ref-addr|People addr|-
-Course#code|-|Course code|-|-
-Enrolled#rel-student=id;course=code|-|-|-|Enrolled student id course code
-D|D|-|-|-
-D#id|-|D id|-|-
-D#v|-|D v|-|-
-Q#ref-x;y|-|-|Q x y|-
-a%20b%2Fc#x%3By%3Dz|-|a b/c x;y=z|-|-
-Student/id=1|-|-|-|-"
-}
-
-fn told_table(alloc: Global, iri: &Iri) -> Result<String, Fail> {
-    match read_table_iri(alloc, &base(alloc)?, iri)? {
-        Some(name) => Ok(String::from_str(alloc, name.as_str())?),
-        None => Ok(String::from_str(alloc, "-")?),
+fn push_table(alloc: Global, out: &mut String, base: &Base, iri: &Iri) -> Option<()> {
+    match read_table_iri(alloc, base, iri).ok()? {
+        Some(name) => push_word(out, &name),
+        None => out.push('-').ok(),
     }
 }
 
-fn told_column(alloc: Global, iri: &Iri) -> Result<String, Fail> {
-    match read_column_iri(alloc, &base(alloc)?, iri)? {
-        Some(name) => Ok(format!(in alloc; "{} {}", name.table.as_str(), name.column.as_str())?),
-        None => Ok(String::from_str(alloc, "-")?),
+fn read_column(alloc: Global, base: &Base, iri: &Iri) -> Option<Option<ColumnName>> {
+    read_column_iri(alloc, base, iri).ok()
+}
+
+fn push_column(alloc: Global, out: &mut String, base: &Base, iri: &Iri) -> Option<()> {
+    match read_column(alloc, base, iri)? {
+        Some(name) => {
+            push_word(out, &name.table)?;
+            push_word(out, &name.column)
+        }
+        None => out.push('-').ok(),
     }
 }
 
-fn reference_letters(alloc: Global, name: &RefName) -> Result<String, Fail> {
-    let mut letters = String::from_str(alloc, name.table.as_str())?;
-    for column in name.columns.as_slice() {
-        letters.push_str(" ")?;
-        letters.push_str(column.as_str())?;
+fn read_reference(alloc: Global, base: &Base, iri: &Iri) -> Option<Option<RefName>> {
+    read_ref_iri(alloc, base, iri).ok()
+}
+
+fn push_columns(out: &mut String, columns: &[Text]) -> Option<()> {
+    for column in columns {
+        push_word(out, column)?;
     }
-    Ok(letters)
+    Some(())
 }
 
-fn told_reference(alloc: Global, iri: &Iri) -> Result<String, Fail> {
-    match read_ref_iri(alloc, &base(alloc)?, iri)? {
-        Some(name) => reference_letters(alloc, &name),
-        None => Ok(String::from_str(alloc, "-")?),
-    }
-}
-
-fn relation_letters(alloc: Global, name: &RelName) -> Result<String, Fail> {
-    let sides = format!(in alloc; "{} {}", name.right.as_str(), name.right_target.as_str())?;
-    let left = format!(in alloc; "{} {}", name.left.as_str(), name.left_target.as_str())?;
-    Ok(format!(in alloc;
-        "{} {} {}",
-        name.table.as_str(),
-        left.as_str(),
-        sides.as_str()
-    )?)
-}
-
-fn told_relation(alloc: Global, iri: &Iri) -> Result<String, Fail> {
-    match read_rel_iri(alloc, &base(alloc)?, iri)? {
-        Some(name) => relation_letters(alloc, &name),
-        None => Ok(String::from_str(alloc, "-")?),
+fn push_reference(alloc: Global, out: &mut String, base: &Base, iri: &Iri) -> Option<()> {
+    match read_reference(alloc, base, iri)? {
+        Some(name) => {
+            push_word(out, &name.table)?;
+            push_columns(out, name.columns.as_slice())
+        }
+        None => out.push('-').ok(),
     }
 }
 
-fn told_names(alloc: Global, iri: &Iri) -> Result<String, Fail> {
-    let table = told_table(alloc, iri)?;
-    let column = told_column(alloc, iri)?;
-    Ok(format!(in alloc; "{}|{}", table.as_str(), column.as_str())?)
+fn read_relation(alloc: Global, base: &Base, iri: &Iri) -> Option<Option<RelName>> {
+    read_rel_iri(alloc, base, iri).ok()
 }
 
-fn told_links(alloc: Global, iri: &Iri) -> Result<String, Fail> {
-    let reference = told_reference(alloc, iri)?;
-    let relation = told_relation(alloc, iri)?;
-    Ok(format!(in alloc; "{}|{}", reference.as_str(), relation.as_str())?)
+fn push_sides(out: &mut String, name: &RelName) -> Option<()> {
+    push_word(out, &name.table)?;
+    push_word(out, &name.left)?;
+    push_word(out, &name.left_target)?;
+    push_word(out, &name.right)?;
+    push_word(out, &name.right_target)
 }
 
-fn told_of(alloc: Global, rest: &str) -> Result<String, Fail> {
-    let letters = format!(in alloc; "{BASE}{rest}")?;
-    let iri = iri(alloc, letters.as_str())?;
-    let names = told_names(alloc, &iri)?;
-    let links = told_links(alloc, &iri)?;
-    Ok(format!(in alloc; "{}|{}", names.as_str(), links.as_str())?)
+fn push_relation(alloc: Global, out: &mut String, base: &Base, iri: &Iri) -> Option<()> {
+    match read_relation(alloc, base, iri)? {
+        Some(name) => push_sides(out, &name),
+        None => out.push('-').ok(),
+    }
+}
+
+// What the readers of tables, columns, references and relations tell, those of these letters.
+fn push_told(alloc: Global, out: &mut String, readers: &str, iri: &Iri) -> Option<()> {
+    let base = base(alloc)?;
+    for reader in readers.chars() {
+        match reader {
+            't' => push_table(alloc, out, &base, iri)?,
+            'c' => push_column(alloc, out, &base, iri)?,
+            'f' => push_reference(alloc, out, &base, iri)?,
+            _ => push_relation(alloc, out, &base, iri)?,
+        }
+    }
+    Some(())
+}
+
+fn told(alloc: Global, readers: &str, letters: &str) -> Option<String> {
+    let iri = iri(alloc, letters)?;
+    let mut out = String::new(alloc);
+    push_told(alloc, &mut out, readers, &iri)?;
+    Some(out)
+}
+
+fn is_read(alloc: Global, case: &str) -> bool {
+    match case.split_once('|') {
+        Some((letters, names)) => is_text(told(alloc, "tcfl", letters), names),
+        None => false,
+    }
+}
+
+// IRIs, and what the four readers tell: ` ` and a name for each, or `-` for nothing.
+const READ: &str = "http://foo.example/DB/Addresses| Addresses---
+http://foo.example/DB/People| People---
+http://foo.example/DB/Addresses#ID|- Addresses ID--
+http://foo.example/DB/People#fname|- People fname--
+http://foo.example/DB/People#addr|- People addr--
+http://foo.example/DB/People#ref-addr|- People ref-addr People addr-
+http://foo.example/DB/Course#code|- Course code--
+http://foo.example/DB/Enrolled#rel-student=id;course=code|--- Enrolled student id course code
+http://foo.example/DB/D| D---
+http://foo.example/DB/D#id|- D id--
+http://foo.example/DB/D#v|- D v--
+http://foo.example/DB/Q#ref-x;y|-- Q x y-
+http://foo.example/DB/a%20b%2Fc#x%3By%3Dz|- a b/c x;y=z--
+http://foo.example/DB/Student/id=1|----";
+
+// A reader's letter, and behind it an IRI of which it tells nothing.
+const UNREAD: &str = "t http://foo.example/DB/
+t http://foo.example/DB/\u{FEFF}T
+t http://foo.example/DB/%41
+t http://foo.example/DB/T/id=1
+t http://foo.example/T
+t http://foo.example/DB/T#a
+c http://foo.example/DB/T#
+c http://foo.example/DB/#a
+c http://foo.example/DB/T#a#b
+c http://foo.example/DB/T#%2f
+c http://foo.example/DB/T#\u{FEFF}
+c http://foo.example/DB/T
+f http://foo.example/DB/T#ref-
+f http://foo.example/DB/T#ref-a;
+f http://foo.example/DB/T#a
+f http://foo.example/DB/T#ref-a=b
+l http://foo.example/DB/T#rel-a=b
+l http://foo.example/DB/T#rel-a=b;c=
+l http://foo.example/DB/T#rel-a=b;c=d;e=f
+l http://foo.example/DB/T#ref-a;b";
+
+fn is_unread(alloc: Global, case: &str) -> bool {
+    match case.split_once(' ') {
+        Some((reader, letters)) => is_text(told(alloc, reader, letters), "-"),
+        None => false,
+    }
 }
 
 #[test]
 fn read_iris(rt: HostRuntime) -> Result<(), Fail> {
-    let alloc = rt.alloc();
-    for line in told().lines() {
-        let (rest, names) = line.split_once('|').ok_or("no names")?;
-        assert_eq!(rt; told_of(alloc, rest)?.as_str(), names);
+    for case in READ.lines() {
+        let found = is_read(rt.alloc(), case);
+        assert!(rt; found, "{case}");
     }
-    Ok(())
-}
-
-fn no_tables() -> &'static str {
-    "http://foo.example/DB/ http://foo.example/DB/\u{FEFF}T http://foo.example/DB/%41 http://foo.example/DB/T/id=1 http://foo.example/T http://foo.example/DB/T#a"
-}
-
-fn no_columns() -> &'static str {
-    "http://foo.example/DB/T# http://foo.example/DB/#a http://foo.example/DB/T#a#b http://foo.example/DB/T#%2f http://foo.example/DB/T#\u{FEFF} http://foo.example/DB/T"
-}
-
-fn no_references() -> &'static str {
-    "http://foo.example/DB/T#ref- http://foo.example/DB/T#ref-a; http://foo.example/DB/T#a http://foo.example/DB/T#ref-a=b"
-}
-
-fn no_relations() -> &'static str {
-    "http://foo.example/DB/T#rel-a=b http://foo.example/DB/T#rel-a=b;c= http://foo.example/DB/T#rel-a=b;c=d;e=f http://foo.example/DB/T#ref-a;b"
-}
-
-fn is_table(alloc: Global, letters: &str) -> Result<bool, Fail> {
-    Ok(read_table_iri(alloc, &base(alloc)?, &iri(alloc, letters)?)?.is_some())
-}
-
-fn is_column(alloc: Global, letters: &str) -> Result<bool, Fail> {
-    Ok(read_column_iri(alloc, &base(alloc)?, &iri(alloc, letters)?)?.is_some())
-}
-
-fn is_reference(alloc: Global, letters: &str) -> Result<bool, Fail> {
-    Ok(read_ref_iri(alloc, &base(alloc)?, &iri(alloc, letters)?)?.is_some())
-}
-
-fn is_relation(alloc: Global, letters: &str) -> Result<bool, Fail> {
-    Ok(read_rel_iri(alloc, &base(alloc)?, &iri(alloc, letters)?)?.is_some())
-}
-
-#[test]
-fn other_iris(rt: HostRuntime) -> Result<(), Fail> {
-    let alloc = rt.alloc();
-    for letters in no_tables().split(' ') {
-        assert!(rt; !is_table(alloc, letters)?, "{letters}");
+    for case in UNREAD.lines() {
+        let found = is_unread(rt.alloc(), case);
+        assert!(rt; found, "{case}");
     }
-    for letters in no_columns().split(' ') {
-        assert!(rt; !is_column(alloc, letters)?, "{letters}");
-    }
-    for letters in no_references().split(' ') {
-        assert!(rt; !is_reference(alloc, letters)?, "{letters}");
-    }
-    for letters in no_relations().split(' ') {
-        assert!(rt; !is_relation(alloc, letters)?, "{letters}");
-    }
-    Ok(())
-}
-
-fn key(alloc: Global, value: Value) -> Result<KeyParts, AllocError> {
-    let mut key = KeyParts::new(alloc);
-    let column = text(alloc, "a")?;
-    key.push(KeyPart { column, value })?;
-    let column = text(alloc, "b")?;
-    let value = Value::Text(text(alloc, "z")?);
-    key.push(KeyPart { column, value })?;
-    Ok(key)
-}
-
-fn row(alloc: Global, value: Value) -> Result<Iri, Fail> {
-    Ok(row_iri(alloc, &base(alloc)?, "K", &key(alloc, value)?)?)
-}
-
-#[test]
-fn rows(rt: HostRuntime) -> Result<(), Fail> {
-    let alloc = rt.alloc();
-    let spelled = row(alloc, Value::Text(text(alloc, "x;b=y")?))?;
-    assert_eq!(rt; spelled.as_str(), "http://foo.example/DB/K/a=x%3Bb%3Dy;b=z");
-    let empty = row(alloc, Value::Text(text(alloc, "")?))?;
-    assert_eq!(rt; empty.as_str(), "http://foo.example/DB/K/a=;b=z");
-    let number = row(alloc, Value::Integer(18))?;
-    assert_eq!(rt; number.as_str(), "http://foo.example/DB/K/a=18;b=z");
-    Ok(())
-}
-
-fn variable_of(alloc: Global, name: &str) -> Result<Var, Fail> {
-    if name.is_empty() {
-        return Err("no name".into());
-    }
-    Ok(variable(alloc, name)?)
-}
-
-#[test]
-fn labels_and_variables(rt: HostRuntime) -> Result<(), Fail> {
-    let alloc = rt.alloc();
-    assert_eq!(rt; row_label(alloc, 1, 20)?.as_str(), "t1r20");
-    assert_eq!(rt; variable_of(alloc, "ID")?.as_str(), "ID");
-    assert_eq!(rt; variable_of(alloc, "a_b")?.as_str(), "a_5Fb");
-    assert_eq!(rt; variable_of(alloc, "é ")?.as_str(), "_C3_A9_20");
-    assert_eq!(rt; variable_of(alloc, "_r")?.as_str(), "_5Fr");
     Ok(())
 }
 
 // A type as it is given, and after `|` as a literal keeps it, on each line: nothing, an IRI, or `@` and a tag.
-fn types() -> &'static str {
-    "|
+const TYPES: &str = "|
 http://www.w3.org/2001/XMLSchema#string|
 http://www.w3.org/2001/XMLSchema#integer|http://www.w3.org/2001/XMLSchema#integer
 http://www.w3.org/2001/XMLSchema#String|http://www.w3.org/2001/XMLSchema#String
-@en-GB|@en-GB"
+@en-GB|@en-GB";
+
+fn tagged(alloc: Global, letters: &str) -> Option<LiteralType> {
+    Some(LiteralType::Tagged(tag(alloc, letters)?))
 }
 
-fn kind(alloc: Global, letters: &str) -> Result<LiteralType, Fail> {
-    if letters.is_empty() {
-        return Ok(LiteralType::Plain);
-    }
+fn typed(alloc: Global, letters: &str) -> Option<LiteralType> {
+    Some(LiteralType::Typed(iri(alloc, letters)?))
+}
+
+fn kind(alloc: Global, letters: &str) -> Option<LiteralType> {
     match letters.strip_prefix('@') {
-        Some(tag) => Ok(LiteralType::Tagged(Tag::new(text(alloc, tag)?).ok_or("no tag")?)),
-        None => Ok(LiteralType::Typed(iri(alloc, letters)?)),
+        Some(tag) => tagged(alloc, tag),
+        None if letters == "" => Some(LiteralType::Plain),
+        None => typed(alloc, letters),
     }
 }
 
-fn kind_letters(alloc: Global, kind: &LiteralType) -> Result<String, Fail> {
+fn is_kind(kind: &LiteralType, letters: &str) -> bool {
     match kind {
-        LiteralType::Plain => Ok(String::new(alloc)),
-        LiteralType::Typed(datatype) => Ok(String::from_str(alloc, datatype.as_str())?),
-        LiteralType::Tagged(tag) => Ok(format!(in alloc; "@{}", tag.as_str())?),
+        LiteralType::Plain => letters == "",
+        LiteralType::Typed(datatype) => letters == datatype.as_str(),
+        LiteralType::Tagged(tag) => letters.strip_prefix('@') == Some(tag.as_str()),
     }
 }
 
-fn literal(alloc: Global, letters: &str, type_letters: &str) -> Result<Literal, Fail> {
-    Ok(Literal::new(text(alloc, letters)?, kind(alloc, type_letters)?))
+fn literal(alloc: Global, letters: &str, type_letters: &str) -> Option<Literal> {
+    let kind = kind(alloc, type_letters)?;
+    Some(Literal::new(text(alloc, letters)?, kind))
 }
 
-#[test]
-fn literals(rt: HostRuntime) -> Result<(), Fail> {
-    let alloc = rt.alloc();
-    for line in types().lines() {
-        let (given, kept) = line.split_once('|').ok_or("no type")?;
-        let literal = literal(alloc, "x", given)?;
-        assert_eq!(rt; literal.text().as_str(), "x");
-        assert_eq!(rt; kind_letters(alloc, literal.kind())?.as_str(), kept);
+fn keeps(alloc: Global, given: &str, kept: &str) -> bool {
+    match literal(alloc, "x", given) {
+        Some(literal) => (literal.text().as_str() == "x") & is_kind(literal.kind(), kept),
+        None => false,
     }
-    Ok(())
 }
 
 // The IRI, or the blank node after `_:`, or the plain literal after a quotation mark.
-fn term(alloc: Global, letters: &str) -> Result<Term, Fail> {
-    if let Some(label) = letters.strip_prefix("_:") {
-        let label = Label::new(text(alloc, label)?).ok_or("no label")?;
-        return Ok(Term::Blank(label));
-    }
-    match letters.strip_prefix('"') {
-        Some(plain) => Ok(Term::Literal(literal(alloc, plain, "")?)),
-        None => Ok(Term::Iri(iri(alloc, letters)?)),
+fn term(alloc: Global, letters: &str) -> Option<Term> {
+    match letters.chars().next() {
+        Some('_') => blank(alloc, letters.strip_prefix("_:").unwrap_or("")),
+        Some('"') => plain(alloc, letters.strip_prefix('"').unwrap_or("")),
+        _ => named(alloc, letters),
     }
 }
 
-fn terms() -> &'static str {
-    "http://a/o _:t1r1 \"x"
+fn blank(alloc: Global, letters: &str) -> Option<Term> {
+    Some(Term::Blank(label(alloc, letters)?))
 }
 
-fn triple(alloc: Global, subject: &str, object: &str) -> Result<Option<Triple>, Fail> {
-    let predicate = iri(alloc, "http://a/p")?;
-    Ok(Triple::new(term(alloc, subject)?, predicate, term(alloc, object)?))
+fn plain(alloc: Global, letters: &str) -> Option<Term> {
+    Some(Term::Literal(literal(alloc, letters, "")?))
 }
 
-fn is_made_of(alloc: Global, triple: &Triple, subject: &str, object: &str) -> Result<bool, Fail> {
-    Ok(
-        (*triple.subject() == term(alloc, subject)?)
-            & (triple.predicate().as_str() == "http://a/p")
-            & (*triple.object() == term(alloc, object)?),
-    )
+fn named(alloc: Global, letters: &str) -> Option<Term> {
+    Some(Term::Iri(iri(alloc, letters)?))
 }
 
-// Whether a triple of the subject and the object keeps them both.
-fn keeps_terms(alloc: Global, subject: &str, object: &str) -> Result<bool, Fail> {
-    let triple = triple(alloc, subject, object)?.ok_or("no triple")?;
-    is_made_of(alloc, &triple, subject, object)
+fn triple(alloc: Global, subject: &str, object: &str) -> Option<Triple> {
+    let subject = term(alloc, subject)?;
+    let object = term(alloc, object)?;
+    Triple::new(subject, iri(alloc, "http://a/p")?, object)
 }
 
-fn is_triple(alloc: Global, subject: &str) -> Result<bool, Fail> {
-    Ok(triple(alloc, subject, "http://a/o")?.is_some())
+fn is_term(alloc: Global, found: &Term, letters: &str) -> bool {
+    match term(alloc, letters) {
+        Some(term) => *found == term,
+        None => false,
+    }
+}
+
+fn keeps_terms(alloc: Global, subject: &str, object: &str) -> bool {
+    match triple(alloc, subject, object) {
+        Some(triple) => {
+            is_term(alloc, triple.subject(), subject)
+                & (triple.predicate().as_str() == "http://a/p")
+                & is_term(alloc, triple.object(), object)
+        }
+        None => false,
+    }
+}
+
+fn is_copied<T: TryCopy + PartialEq + Drop>(alloc: Global, value: Option<T>) -> bool {
+    match value {
+        Some(value) => match value.copy(alloc) {
+            Ok(copy) => copy == value,
+            Err(_) => false,
+        },
+        None => false,
+    }
+}
+
+fn is_kept_type(alloc: Global, case: &str) -> bool {
+    match case.split_once('|') {
+        Some((given, kept)) => {
+            keeps(alloc, given, kept)
+                & is_copied(alloc, kind(alloc, given))
+                & is_copied(alloc, literal(alloc, "x", given))
+        }
+        None => false,
+    }
+}
+
+fn one_triple(alloc: Global, object: &str) -> Option<Triples> {
+    let triple = triple(alloc, "_:z", object)?;
+    let mut list = Triples::new(alloc);
+    list.push(triple).ok()?;
+    Some(list)
+}
+
+fn is_kept_term(alloc: Global, object: &str) -> bool {
+    keeps_terms(alloc, "_:z", object)
+        & is_copied(alloc, term(alloc, object))
+        & is_copied(alloc, one_triple(alloc, object))
 }
 
 #[test]
-fn triples(rt: HostRuntime) -> Result<(), Fail> {
-    for object in terms().split(' ') {
-        assert!(rt; keeps_terms(rt.alloc(), "_:z", object)?, "{object}");
+fn terms(rt: HostRuntime) -> Result<(), Fail> {
+    for case in TYPES.lines() {
+        let found = is_kept_type(rt.alloc(), case);
+        assert!(rt; found, "{case}");
     }
-    assert!(rt; is_triple(rt.alloc(), "http://a/s")?);
-    assert!(rt; !is_triple(rt.alloc(), "\"x")?);
+    for object in "http://a/o _:t1r1 \"x".split(' ') {
+        let found = is_kept_term(rt.alloc(), object);
+        assert!(rt; found, "{object}");
+    }
     Ok(())
 }
 
-fn is_copied<T: TryCopy + PartialEq + Drop>(alloc: Global, value: &T) -> Result<bool, Fail> {
-    Ok(value.copy(alloc)? == *value)
+fn is_subject(alloc: Global, letters: &str) -> bool {
+    triple(alloc, letters, "http://a/o").is_some()
 }
 
-fn copies_base(alloc: Global) -> Result<bool, Fail> {
-    is_copied(alloc, &base(alloc)?)
-}
-
-fn copies_iri(alloc: Global) -> Result<bool, Fail> {
-    is_copied(alloc, &iri(alloc, "http://a/é")?)
-}
-
-fn copies_label(alloc: Global) -> Result<bool, Fail> {
-    is_copied(alloc, &row_label(alloc, 1, 2)?)
-}
-
-fn copies_tag(alloc: Global) -> Result<bool, Fail> {
-    is_copied(alloc, &Tag::new(text(alloc, "en")?).ok_or("no tag")?)
-}
-
-fn var(alloc: Global, letters: &str) -> Result<Var, Fail> {
-    Ok(Var::new(text(alloc, letters)?).ok_or("no variable")?)
-}
-
-fn add_var(vars: &mut Vars, var: Var) -> Result<(), AllocError> {
-    vars.push(var)?;
+#[test]
+fn subjects(rt: HostRuntime) -> Result<(), Fail> {
+    let found = is_subject(rt.alloc(), "http://a/s");
+    assert!(rt; found);
+    let found = is_subject(rt.alloc(), "\"x");
+    assert!(rt; !found);
     Ok(())
 }
 
-fn vars(alloc: Global) -> Result<Vars, Fail> {
+fn add_var(alloc: Global, vars: &mut Vars, name: &str) -> Option<()> {
+    vars.push(var(alloc, name)?).ok()
+}
+
+fn vars(alloc: Global) -> Option<Vars> {
     let mut vars = Vars::new(alloc);
-    add_var(&mut vars, var(alloc, "ID")?)?;
-    add_var(&mut vars, var(alloc, "a_20b")?)?;
-    Ok(vars)
+    add_var(alloc, &mut vars, "ID")?;
+    add_var(alloc, &mut vars, "a_20b")?;
+    Some(vars)
 }
 
-fn add(list: &mut Triples, triple: Triple) -> Result<(), AllocError> {
-    list.push(triple)?;
-    Ok(())
-}
-
-fn copies_vars(alloc: Global) -> Result<bool, Fail> {
-    is_copied(alloc, &vars(alloc)?)
-}
-
-fn copies_term(alloc: Global, letters: &str) -> Result<bool, Fail> {
-    is_copied(alloc, &term(alloc, letters)?)
-}
-
-fn copies_triples(alloc: Global, object: &str) -> Result<bool, Fail> {
-    let mut list = Triples::new(alloc);
-    add(&mut list, triple(alloc, "_:z", object)?.ok_or("no triple")?)?;
-    is_copied(alloc, &list)
-}
-
-fn copies_kind(alloc: Global, letters: &str) -> Result<bool, Fail> {
-    is_copied(alloc, &kind(alloc, letters)?)
-}
-
-fn copies_literal(alloc: Global, letters: &str) -> Result<bool, Fail> {
-    is_copied(alloc, &literal(alloc, "x", letters)?)
-}
-
-fn column_name(alloc: Global) -> Result<ColumnName, AllocError> {
+fn column_name(alloc: Global) -> Option<ColumnName> {
     let table = text(alloc, "T")?;
     let column = text(alloc, "a b")?;
-    Ok(ColumnName { table, column })
+    Some(ColumnName { table, column })
 }
 
-fn copies_column(alloc: Global) -> Result<bool, Fail> {
-    is_copied(alloc, &column_name(alloc)?)
+fn reference_name(alloc: Global) -> Option<RefName> {
+    let table = text(alloc, "Q")?;
+    let columns = columns(alloc)?;
+    Some(RefName { table, columns })
 }
 
-fn copies_reference(alloc: Global) -> Result<bool, Fail> {
-    let reference = RefName {
-        table: text(alloc, "Q")?,
-        columns: list(alloc, "x", "y")?,
-    };
-    is_copied(alloc, &reference)
-}
-
-fn copies_relation(alloc: Global) -> Result<bool, Fail> {
-    is_copied(alloc, &enrolled(alloc)?)
-}
-
-fn copies_key(alloc: Global) -> Result<bool, Fail> {
-    is_copied(alloc, &key(alloc, Value::Integer(18))?)
-}
-
-#[test]
-fn copies_of_names(rt: HostRuntime) -> Result<(), Fail> {
-    let alloc = rt.alloc();
-    assert!(rt; copies_base(alloc)?);
-    assert!(rt; copies_iri(alloc)?);
-    assert!(rt; copies_label(alloc)?);
-    assert!(rt; copies_tag(alloc)?);
-    assert!(rt; copies_vars(alloc)?);
-    assert!(rt; copies_column(alloc)?);
-    assert!(rt; copies_reference(alloc)?);
-    assert!(rt; copies_relation(alloc)?);
-    assert!(rt; copies_key(alloc)?);
-    Ok(())
-}
-
-#[test]
-fn copies_of_terms(rt: HostRuntime) -> Result<(), Fail> {
-    let alloc = rt.alloc();
-    for object in terms().split(' ') {
-        assert!(rt; copies_term(alloc, object)?, "{object}");
-        assert!(rt; copies_triples(alloc, object)?, "{object}");
+fn is_copied_case(alloc: Global, case: u32) -> bool {
+    match case {
+        0 => is_copied(alloc, base(alloc)),
+        1 => is_copied(alloc, iri(alloc, "http://a/é")),
+        2 => is_copied(alloc, row_label_of(alloc)),
+        3 => is_copied(alloc, tag(alloc, "en")),
+        4 => is_copied(alloc, vars(alloc)),
+        5 => is_copied(alloc, column_name(alloc)),
+        6 => is_copied(alloc, reference_name(alloc)),
+        7 => is_copied(alloc, enrolled(alloc)),
+        _ => is_copied(alloc, key(alloc, Value::Integer(18))),
     }
-    for line in types().lines() {
-        let (given, _kept) = line.split_once('|').ok_or("no type")?;
-        assert!(rt; copies_kind(alloc, given)?, "{given}");
-        assert!(rt; copies_literal(alloc, given)?, "{given}");
+}
+
+#[test]
+fn copies(rt: HostRuntime) -> Result<(), Fail> {
+    for case in 0..9 {
+        let found = is_copied_case(rt.alloc(), case);
+        assert!(rt; found, "{case}");
     }
     Ok(())
 }

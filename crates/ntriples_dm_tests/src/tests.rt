@@ -1,41 +1,74 @@
 use names_dm::{Iri, Label, Literal, LiteralType, Tag, Term, Triple};
 use ntriples_dm::{term_text, triple_text, write_triple};
 use outside_dm::{Cut, Cuts, MemorySink, NoFaultSink, PutError};
-use std::alloc::{AllocError, Global};
+use std::alloc::Global;
 use std::test::Fail;
 use value_dm::Text;
 
-fn text(alloc: Global, letters: &str) -> Result<Text, AllocError> {
-    Text::from_str(alloc, letters)
+fn text(alloc: Global, letters: &str) -> Option<Text> {
+    Text::from_str(alloc, letters).ok()
 }
 
-fn iri(alloc: Global, letters: &str) -> Result<Iri, Fail> {
-    Ok(Iri::new(text(alloc, letters)?).ok_or("no IRI")?)
+fn iri(alloc: Global, letters: &str) -> Option<Iri> {
+    Iri::new(text(alloc, letters)?)
+}
+
+fn label(alloc: Global, letters: &str) -> Option<Label> {
+    Label::new(text(alloc, letters)?)
+}
+
+fn tag(alloc: Global, letters: &str) -> Option<Tag> {
+    Tag::new(text(alloc, letters)?)
+}
+
+fn tagged(alloc: Global, letters: &str) -> Option<LiteralType> {
+    Some(LiteralType::Tagged(tag(alloc, letters)?))
+}
+
+fn typed(alloc: Global, letters: &str) -> Option<LiteralType> {
+    Some(LiteralType::Typed(iri(alloc, letters)?))
 }
 
 // The type of a literal: nothing, a tag behind `@`, or a datatype.
-fn kind(alloc: Global, letters: &str) -> Result<LiteralType, Fail> {
-    if letters.is_empty() {
-        return Ok(LiteralType::Plain);
-    }
+fn kind(alloc: Global, letters: &str) -> Option<LiteralType> {
     match letters.strip_prefix('@') {
-        Some(tag) => Ok(LiteralType::Tagged(Tag::new(text(alloc, tag)?).ok_or("no tag")?)),
-        None => Ok(LiteralType::Typed(iri(alloc, letters)?)),
+        Some(tag) => tagged(alloc, tag),
+        None if letters == "" => Some(LiteralType::Plain),
+        None => typed(alloc, letters),
     }
+}
+
+fn named(alloc: Global, letters: &str) -> Option<Term> {
+    Some(Term::Iri(iri(alloc, letters)?))
+}
+
+fn blank(alloc: Global, letters: &str) -> Option<Term> {
+    Some(Term::Blank(label(alloc, letters)?))
+}
+
+fn literal(alloc: Global, letters: &str, type_of: &str) -> Option<Term> {
+    let kind = kind(alloc, type_of)?;
+    Some(Term::Literal(Literal::new(text(alloc, letters)?, kind)))
 }
 
 // A term by its sort: `i`, `b`, or `l` with a literal's type.
-fn term(alloc: Global, sort: &str, letters: &str, type_of: &str) -> Result<Term, Fail> {
+fn term(alloc: Global, sort: &str, letters: &str, type_of: &str) -> Option<Term> {
     match sort {
-        "i" => Ok(Term::Iri(iri(alloc, letters)?)),
-        "b" => Ok(Term::Blank(Label::new(text(alloc, letters)?).ok_or("no label")?)),
-        _ => Ok(Term::Literal(Literal::new(text(alloc, letters)?, kind(alloc, type_of)?))),
+        "i" => named(alloc, letters),
+        "b" => blank(alloc, letters),
+        _ => literal(alloc, letters, type_of),
     }
 }
 
+fn fields(case: &str) -> Option<(&str, &str, &str, &str)> {
+    let (sort, rest) = case.split_once('|')?;
+    let (letters, rest) = rest.split_once('|')?;
+    let (type_of, form) = rest.split_once('|')?;
+    Some((sort, letters, type_of, form))
+}
+
 // Sort, text, type and written form, `|` between them; a line ends at `;`, since texts hold line ends.
-fn terms() -> &'static str {
-    "i|http://example.org/#spiderman||<http://example.org/#spiderman>;\
+const TERMS: &str = "i|http://example.org/#spiderman||<http://example.org/#spiderman>;\
     i|http://example.org/é||<http://example.org/é>;\
     b|alice||_:alice;\
     l|That Seventies Show||\"That Seventies Show\";\
@@ -47,97 +80,125 @@ fn terms() -> &'static str {
     l|\\||\"\\\\\";\
     l|a\nb\r\nc||\"a\\nb\\r\\nc\";\
     l|\t\0\u{8}\u{C}'\u{7F}\u{85}\u{2028}||\"\t\0\u{8}\u{C}'\u{7F}\u{85}\u{2028}\";\
-    l|0123456789012345678901234567890123456789\"0123456789012345678901234567890é\n||\"0123456789012345678901234567890123456789\\\"0123456789012345678901234567890é\\n\""
+    l|0123456789012345678901234567890123456789\"0123456789012345678901234567890é\n||\"0123456789012345678901234567890123456789\\\"0123456789012345678901234567890é\\n\"";
+
+fn written(alloc: Global, term: &Term) -> Option<String> {
+    term_text(alloc, term).ok()
 }
 
-fn written(alloc: Global, sort: &str, letters: &str, type_of: &str) -> Result<String, Fail> {
-    let term = term(alloc, sort, letters, type_of)?;
-    Ok(term_text(alloc, &term)?)
-}
-
-#[test]
-fn terms_as_text(rt: HostRuntime) -> Result<(), Fail> {
-    let alloc = rt.alloc();
-    for line in terms().split(';') {
-        let (sort, rest) = line.split_once('|').ok_or("no sort")?;
-        let (letters, rest) = rest.split_once('|').ok_or("no text")?;
-        let (type_of, form) = rest.split_once('|').ok_or("no type")?;
-        assert_eq!(rt; written(alloc, sort, letters, type_of)?.as_str(), form);
+fn is_written(alloc: Global, term: Option<Term>, form: &str) -> bool {
+    match term {
+        Some(term) => match written(alloc, &term) {
+            Some(text) => text.as_str() == form,
+            None => false,
+        },
+        None => false,
     }
-    Ok(())
 }
 
-fn subject(alloc: Global, sort: &str) -> Result<Term, Fail> {
-    term(alloc, sort, "x", "")
+fn is_term(alloc: Global, case: &str) -> bool {
+    match fields(case) {
+        Some((sort, letters, type_of, form)) => {
+            is_written(alloc, term(alloc, sort, letters, type_of), form)
+        }
+        None => false,
+    }
 }
 
-fn triple(alloc: Global, sort: &str, letters: &str, type_of: &str) -> Result<Triple, Fail> {
-    let object = term(alloc, "l", letters, type_of)?;
-    Ok(Triple::new(subject(alloc, sort)?, iri(alloc, "p")?, object).ok_or("no triple")?)
+fn triple(alloc: Global, sort: &str, object: Term) -> Option<Triple> {
+    let subject = term(alloc, sort, "x", "")?;
+    Triple::new(subject, iri(alloc, "p")?, object)
 }
 
-// The line as text.
-fn line_text(alloc: Global, triple: &Triple) -> Result<String, Fail> {
-    Ok(triple_text(alloc, triple)?)
+fn line_text(alloc: Global, triple: &Triple) -> Option<String> {
+    triple_text(alloc, triple).ok()
 }
 
-// The line as it is put into a sink that doesn't fail.
-fn line_put(alloc: Global, triple: &Triple) -> Result<NoFaultSink, Fail> {
+fn put(alloc: Global, triple: &Triple, out: &mut NoFaultSink) -> bool {
+    write_triple(alloc, triple, out).is_ok()
+}
+
+// Whether this is the line, as text and as it is put into a sink that doesn't fail.
+fn is_line_of(alloc: Global, triple: &Triple, line: &str) -> bool {
     let mut out = NoFaultSink::new(alloc);
-    write_triple(alloc, triple, &mut out)?;
-    Ok(out)
+    let whole = put(alloc, triple, &mut out);
+    let same = out.bytes() == line.as_bytes();
+    match line_text(alloc, triple) {
+        Some(text) => whole & same & (text.as_str() == line),
+        None => false,
+    }
+}
+
+fn triple_of(alloc: Global, sort: &str, letters: &str, type_of: &str) -> Option<Triple> {
+    triple(alloc, sort, literal(alloc, letters, type_of)?)
+}
+
+fn is_line(alloc: Global, case: &str) -> bool {
+    match fields(case) {
+        Some((sort, letters, type_of, line)) => match triple_of(alloc, sort, letters, type_of) {
+            Some(triple) => is_line_of(alloc, &triple, line),
+            None => false,
+        },
+        None => false,
+    }
 }
 
 // Subject's sort, object's text and type, and the line.
-fn triples() -> &'static str {
-    "i|1|d|<x> <p> \"1\"^^<d> .\n;\
+const TRIPLES: &str = "i|1|d|<x> <p> \"1\"^^<d> .\n;\
     b|a\"b\\c\nd\re|@en|_:x <p> \"a\\\"b\\\\c\\nd\\re\"@en .\n;\
-    b|0123456789012345678901234567890123456789\"0123456789012345678901234567890é\n||_:x <p> \"0123456789012345678901234567890123456789\\\"0123456789012345678901234567890é\\n\" .\n"
-}
+    b|0123456789012345678901234567890123456789\"0123456789012345678901234567890é\n||_:x <p> \"0123456789012345678901234567890123456789\\\"0123456789012345678901234567890é\\n\" .\n";
 
 #[test]
-fn lines(rt: HostRuntime) -> Result<(), Fail> {
-    let alloc = rt.alloc();
-    for case in triples().split(';') {
-        let (sort, rest) = case.split_once('|').ok_or("no sort")?;
-        let (letters, rest) = rest.split_once('|').ok_or("no text")?;
-        let (type_of, line) = rest.split_once('|').ok_or("no type")?;
-        let triple = triple(alloc, sort, letters, type_of)?;
-        assert_eq!(rt; line_text(alloc, &triple)?.as_str(), line);
-        assert!(rt; line_put(alloc, &triple)?.bytes() == line.as_bytes());
+fn written_forms(rt: HostRuntime) -> Result<(), Fail> {
+    for case in TERMS.split(';') {
+        let found = is_term(rt.alloc(), case);
+        assert!(rt; found, "{case}");
+    }
+    for case in TRIPLES.split(';') {
+        let found = is_line(rt.alloc(), case);
+        assert!(rt; found, "{case}");
     }
     Ok(())
 }
 
-fn sink(alloc: Global, call: u64, kept: u64) -> Result<MemorySink, Fail> {
+fn sink(alloc: Global, call: u64, kept: u64) -> Option<MemorySink> {
     let mut cuts = Cuts::new(alloc);
-    cuts.push(Cut { call, kept })?;
-    Ok(MemorySink::new(alloc, cuts))
+    cuts.push(Cut { call, kept }).ok()?;
+    Some(MemorySink::new(alloc, cuts))
 }
 
-// What the put of a line answers where the put with this number fails.
 fn cut(alloc: Global, triple: &Triple, out: &mut MemorySink) -> Result<(), PutError> {
     write_triple(alloc, triple, out)
 }
 
+// How many bytes a sink holds whose put with this number fails, and keeps so many bytes; they begin the line, and
+// are all of it where no put fails.
+fn held(alloc: Global, triple: &Triple, call: u64, kept: u64) -> Option<usize> {
+    let mut out = sink(alloc, call, kept)?;
+    let answer = cut(alloc, triple, &mut out);
+    let line = b"_:x <p> \"a\\nb\"@en .\n".as_slice();
+    let bytes = out.bytes();
+    let fits = match answer {
+        Ok(()) => bytes == line,
+        Err(error) => (error == PutError::Failed) & (bytes.len() < 20) & line.starts_with(bytes),
+    };
+    if fits { Some(bytes.len()) } else { None }
+}
+
+fn held_of(alloc: Global, call: u64, kept: u64) -> Option<usize> {
+    let triple = triple_of(alloc, "b", "a\nb", "@en")?;
+    held(alloc, &triple, call, kept)
+}
+
 #[test]
 fn a_sink_that_fails(rt: HostRuntime) -> Result<(), Fail> {
-    let alloc = rt.alloc();
-    let triple = triple(alloc, "b", "a\nb", "@en")?;
-    let line = b"_:x <p> \"a\\nb\"@en .\n";
-    let mut out = sink(alloc, 1, 1)?;
-    assert!(rt; cut(alloc, &triple, &mut out) == Err(PutError::Failed));
-    assert!(rt; out.bytes() == b"_".as_slice());
-    let mut whole = false;
+    let found = held_of(rt.alloc(), 1, 1);
+    assert!(rt; found == Some(1));
     for call in 1..100 {
-        let mut out = sink(alloc, call, 0)?;
-        whole = cut(alloc, &triple, &mut out).is_ok();
-        if whole {
-            assert!(rt; out.bytes() == line.as_slice());
-            break;
-        }
-        assert!(rt; line.starts_with(out.bytes()));
+        let found = held_of(rt.alloc(), call, 0);
+        assert!(rt; found.is_some(), "{call}");
     }
-    assert!(rt; whole);
+    let found = held_of(rt.alloc(), 99, 0);
+    assert!(rt; found == Some(20));
     Ok(())
 }
