@@ -2,6 +2,4 @@
 #![tactic(auto)]
 
 #[cfg(test)]
-mod terms;
-#[cfg(test)]
 mod tests;
