@@ -1,0 +1,501 @@
+use grids_dm::{Grid, GridRow};
+use names_dm::{Iri, Literal, LiteralType, Term, Triple, Triples, Var, Vars};
+use pattern_dm::{Condition, Operand, Pattern, answer_grid, is_well_formed, solve, sparql_text};
+use solutions_dm::{Rename, Renames};
+use sqlite_items::Boxed;
+use std::alloc::Global;
+use std::test::Fail;
+use store_dm::Graph;
+use value_dm::{Text, TryCopy};
+
+// A term is written in one word: `?x` is a variable, `"x` the literal x, and any other word w the IRI <http://a/w>.
+
+fn text(alloc: Global, letters: &str) -> Option<Text> {
+    Text::from_str(alloc, letters).ok()
+}
+
+fn var(alloc: Global, name: &str) -> Option<Var> {
+    Var::new(text(alloc, name)?)
+}
+
+fn iri(alloc: Global, word: &str) -> Option<Iri> {
+    let letters = format!(in alloc; "http://a/{word}").ok()?;
+    Iri::new(text(alloc, letters.as_str())?)
+}
+
+fn literal(alloc: Global, letters: &str) -> Option<Literal> {
+    let letters = text(alloc, letters)?;
+    Some(Literal::new(letters, LiteralType::Plain))
+}
+
+fn triple(alloc: Global, subject: &str, predicate: &str, object: &str) -> Option<Triple> {
+    let subject = iri(alloc, subject)?;
+    let predicate = iri(alloc, predicate)?;
+    let object = literal(alloc, object)?;
+    Triple::new(Term::Iri(subject), predicate, Term::Literal(object))
+}
+
+fn add(alloc: Global, list: &mut Triples, s: &str, p: &str, o: &str) -> Option<()> {
+    list.push(triple(alloc, s, p, o)?).ok()
+}
+
+fn built(alloc: Global, triples: Triples) -> Option<Graph> {
+    if triples.len() > 16_777_216 {
+        None
+    } else {
+        Graph::build(alloc, triples).ok()
+    }
+}
+
+fn graph(alloc: Global) -> Option<Graph> {
+    let mut triples = Triples::new(alloc);
+    add(alloc, &mut triples, "1", "p", "x")?;
+    add(alloc, &mut triples, "2", "p", "y")?;
+    add(alloc, &mut triples, "1", "q", "z")?;
+    built(alloc, triples)
+}
+
+// Patterns are written in words, each operator behind its parts: P, Q, R, A and X are triples, and an operator of patterns
+// begins with a capital letter, one of conditions with a small one. `!x` is bound(?x), and `x=y` sameTerm of two terms.
+
+fn operand(alloc: Global, word: &str) -> Option<Operand> {
+    let mut letters = word.chars();
+    match letters.next() {
+        Some('?') => Some(Operand::Var(var(alloc, letters.as_str())?)),
+        Some('"') => Some(Operand::Literal(literal(alloc, letters.as_str())?)),
+        _ => Some(Operand::Iri(iri(alloc, word)?)),
+    }
+}
+
+fn triple_of(alloc: Global, s: &str, p: &str, o: &str) -> Option<Pattern> {
+    let s = operand(alloc, s)?;
+    let p = operand(alloc, p)?;
+    let o = operand(alloc, o)?;
+    Some(Pattern::Triple(s, p, o))
+}
+
+fn same(alloc: Global, word: &str) -> Option<Condition> {
+    let (first, second) = word.split_once('=')?;
+    let first = operand(alloc, first)?;
+    let second = operand(alloc, second)?;
+    Some(Condition::SameTerm(first, second))
+}
+
+fn bound(alloc: Global, name: &str) -> Option<Condition> {
+    Some(Condition::Bound(var(alloc, name)?))
+}
+
+fn part<T: Drop>(alloc: Global, stack: &mut Vec<T>) -> Option<Boxed<T>> {
+    Boxed::new(alloc, stack.pop()?).ok()
+}
+
+fn not(alloc: Global, stack: &mut Vec<Condition>) -> Option<Condition> {
+    Some(Condition::Not(part(alloc, stack)?))
+}
+
+fn of_conditions(alloc: Global, stack: &mut Vec<Condition>, word: &str) -> Option<Condition> {
+    let right = part(alloc, stack)?;
+    let left = part(alloc, stack)?;
+    match word {
+        "and" => Some(Condition::And(left, right)),
+        _ => Some(Condition::Or(left, right)),
+    }
+}
+
+fn condition(alloc: Global, stack: &mut Vec<Condition>, word: &str) -> Option<Condition> {
+    match word {
+        "true" => Some(Condition::True),
+        "not" => not(alloc, stack),
+        "and" => of_conditions(alloc, stack, word),
+        "or" => of_conditions(alloc, stack, word),
+        _ => match word.strip_prefix('!') {
+            Some(name) => bound(alloc, name),
+            None => same(alloc, word),
+        },
+    }
+}
+
+// What the words so far have made and no operator has taken.
+#[derive(Drop)]
+struct Stack {
+    patterns: Vec<Pattern>,
+    conditions: Vec<Condition>,
+}
+
+fn of_patterns(alloc: Global, stack: &mut Vec<Pattern>, word: &str) -> Option<Pattern> {
+    let right = part(alloc, stack)?;
+    let left = part(alloc, stack)?;
+    match word {
+        "And" => Some(Pattern::And(left, right)),
+        "Union" => Some(Pattern::Union(left, right)),
+        _ => Some(Pattern::Minus(left, right)),
+    }
+}
+
+fn left_join(alloc: Global, stack: &mut Stack) -> Option<Pattern> {
+    let condition = stack.conditions.pop()?;
+    let right = part(alloc, &mut stack.patterns)?;
+    let left = part(alloc, &mut stack.patterns)?;
+    Some(Pattern::LeftJoin(left, right, condition))
+}
+
+fn filter(alloc: Global, stack: &mut Stack) -> Option<Pattern> {
+    let condition = stack.conditions.pop()?;
+    let part = part(alloc, &mut stack.patterns)?;
+    Some(Pattern::Filter(part, condition))
+}
+
+fn add_rename(alloc: Global, list: &mut Renames, pair: &str) -> Option<()> {
+    let (from, to) = pair.split_once('>')?;
+    let from = var(alloc, from)?;
+    let to = var(alloc, to)?;
+    list.push(Rename { from, to }).ok()
+}
+
+fn add_renames(alloc: Global, list: &mut Renames, pairs: &str) -> Option<()> {
+    for pair in pairs.split(',') {
+        add_rename(alloc, list, pair)?;
+    }
+    Some(())
+}
+
+// `Select` has no pairs, and `Select:a>b,c>d` two.
+fn select(alloc: Global, stack: &mut Vec<Pattern>, word: &str) -> Option<Pattern> {
+    let mut list = Renames::new(alloc);
+    if let Some((_, pairs)) = word.split_once(':') {
+        add_renames(alloc, &mut list, pairs)?;
+    }
+    let part = part(alloc, stack)?;
+    Some(Pattern::Select(part, list))
+}
+
+fn pattern_of(alloc: Global, stack: &mut Stack, word: &str) -> Option<Pattern> {
+    match word {
+        "P" => triple_of(alloc, "?s", "p", "?v"),
+        "Q" => triple_of(alloc, "?s", "q", "?w"),
+        "R" => triple_of(alloc, "?t", "q", "?w"),
+        "A" => triple_of(alloc, "1", "?s", "?v"),
+        "X" => triple_of(alloc, "3", "p", "\"x"),
+        "Empty" => Some(Pattern::Empty),
+        "And" => of_patterns(alloc, &mut stack.patterns, word),
+        "Union" => of_patterns(alloc, &mut stack.patterns, word),
+        "Minus" => of_patterns(alloc, &mut stack.patterns, word),
+        "LeftJoin" => left_join(alloc, stack),
+        "Filter" => filter(alloc, stack),
+        _ => select(alloc, &mut stack.patterns, word),
+    }
+}
+
+fn push(alloc: Global, stack: &mut Stack, word: &str) -> Option<()> {
+    let first = word.chars().next().unwrap_or(' ');
+    if first.is_ascii_uppercase() {
+        let made = pattern_of(alloc, stack, word)?;
+        stack.patterns.push(made).ok()
+    } else {
+        let made = condition(alloc, &mut stack.conditions, word)?;
+        stack.conditions.push(made).ok()
+    }
+}
+
+fn pattern(alloc: Global, words: &str) -> Option<Pattern> {
+    let mut stack = Stack {
+        patterns: Vec::new(alloc),
+        conditions: Vec::new(alloc),
+    };
+    for word in words.split(' ') {
+        push(alloc, &mut stack, word)?;
+    }
+    stack.patterns.pop()
+}
+
+fn header(alloc: Global, names: &str) -> Option<Vars> {
+    let mut header = Vars::new(alloc);
+    for name in names.split(' ') {
+        header.push(var(alloc, name)?).ok()?;
+    }
+    Some(header)
+}
+
+fn grid(alloc: Global, pattern: &Pattern, graph: &Graph, header: &Vars) -> Option<Grid> {
+    if is_well_formed(pattern) {
+        let solutions = solve(alloc, pattern, graph).ok()?;
+        answer_grid(alloc, header, &solutions, graph).ok()
+    } else {
+        None
+    }
+}
+
+// The last letter of a term, or a full stop.
+fn letter(cell: &Option<Term>) -> char {
+    match cell {
+        Some(Term::Iri(iri)) => iri.as_str().chars().last().unwrap_or('-'),
+        Some(Term::Literal(literal)) => literal.text().as_str().chars().last().unwrap_or('-'),
+        Some(Term::Blank(_)) => '_',
+        None => '.',
+    }
+}
+
+fn row_text(alloc: Global, row: &GridRow) -> Option<String> {
+    let mut out = String::new(alloc);
+    for cell in row.as_slice() {
+        out.push(letter(cell)).ok()?;
+    }
+    Some(out)
+}
+
+// Each row's text, in the order of texts.
+fn lines(alloc: Global, grid: &Grid) -> Option<Vec<String>> {
+    let mut lines = Vec::new(alloc);
+    for row in grid.as_slice() {
+        lines.push(row_text(alloc, row)?).ok()?;
+    }
+    lines.sort_unstable();
+    Some(lines)
+}
+
+fn answer(alloc: Global, words: &str, names: &str) -> Option<Vec<String>> {
+    let pattern = pattern(alloc, words)?;
+    let graph = graph(alloc)?;
+    let header = header(alloc, names)?;
+    let grid = grid(alloc, &pattern, &graph, &header)?;
+    lines(alloc, &grid)
+}
+
+// Whether these are the lines that the text lists, with a space between.
+fn are_lines(lines: &[String], expected: &str) -> bool {
+    let mut words = expected.split(' ');
+    for line in lines {
+        if words.next() != Some(line.as_str()) {
+            return false;
+        }
+    }
+    words.next().unwrap_or("").is_empty()
+}
+
+fn is_answer(alloc: Global, words: &str, names: &str, expected: &str) -> bool {
+    match answer(alloc, words, names) {
+        Some(lines) => are_lines(lines.as_slice(), expected),
+        None => false,
+    }
+}
+
+// SPARQL 1.1 Query Language, section 18.5. Behind `|` stand the rows, a row the last letters of s, v, w, t and k.
+const PATTERNS: &str = "P Q true LeftJoin|1xz.. 2y...
+P Q Minus|2y...
+P Empty Minus|1x... 2y...
+P R Minus|1x... 2y...
+P Q true LeftJoin R And|1xz1. 2yz1.
+P Q true LeftJoin ?w=\"z not Filter|
+P Q true LeftJoin !w not ?w=\"z or Filter|1xz.. 2y...
+P Q ?v=\"y LeftJoin|1x... 2y...
+P Select:u>k|.....
+P P Union|1x... 2y...
+P Q Union|1.z.. 1x... 2y...
+P Q And|1xz..
+P R And|1xz1. 2yz1.
+P X And|
+P Empty And|1x... 2y...
+A|px... qz...
+X|
+Empty|.....
+P Select:v>v,s>k|.x..1 .y..2";
+
+fn is_pattern(alloc: Global, case: &str) -> bool {
+    match case.split_once('|') {
+        Some((words, rows)) => is_answer(alloc, words, "s v w t k", rows),
+        None => false,
+    }
+}
+
+// Conditions on two rows of which the second has no w, and none has a u; behind `|` the rows for which it is true, and
+// then those for which it is false (SPARQL 1.1 Query Language, section 17.2).
+const CONDITIONS: &str = "true|1 2|
+!v|1 2|
+!w|1|2
+!u||1 2
+?v=\"x|1|2
+\"x=?v|1|2
+?w=\"z|1|
+?w=\"x||1
+?w=\"n||1
+?v=\"n||1 2
+?s=2|2|1
+?v=\"1||1 2
+?v=?v|1 2|
+?w=?w|1|
+?v=?w||1
+?v=?u||
+?u=\"x||
+\"x=\"x|1 2|
+\"x=\"y||1 2
+x=\"x||1 2
+?w=\"z not||1
+!w not|2|1
+?u=\"x not||
+?w=\"z ?v=\"x and|1|2
+?w=\"z ?v=\"y and||1
+?u=\"x ?v=\"x and||2
+?w=\"z ?v=\"y or|1 2|
+?w=\"x ?v=\"x or|1|
+?u=\"x ?v=\"x or|1|
+?w=\"x ?v=\"n or||1";
+
+// Whether these are the rows that are kept where these words stand behind the condition.
+fn are_kept(alloc: Global, condition: &str, behind: &str, rows: &str) -> bool {
+    match format!(in alloc; "P Q true LeftJoin {condition} {behind}") {
+        Ok(words) => is_answer(alloc, words.as_str(), "s", rows),
+        Err(_) => false,
+    }
+}
+
+fn is_condition(alloc: Global, case: &str) -> Option<bool> {
+    let (condition, rows) = case.split_once('|')?;
+    let (holding, failing) = rows.split_once('|')?;
+    let holds = are_kept(alloc, condition, "Filter", holding);
+    let fails = are_kept(alloc, condition, "not Filter", failing);
+    Some(holds & fails)
+}
+
+#[test]
+fn solutions(rt: HostRuntime) -> Result<(), Fail> {
+    for case in PATTERNS.lines() {
+        let found = is_pattern(rt.alloc(), case);
+        assert!(rt; found, "{case}");
+    }
+    for case in CONDITIONS.lines() {
+        let found = is_condition(rt.alloc(), case);
+        assert!(rt; found == Some(true), "{case}");
+    }
+    Ok(())
+}
+
+// SPARQL 1.1 Query Language, section 19.8: patterns, and what stands behind the header in their text.
+const TEXTS: &str = "Empty|{ }
+P|{ ?s <http://a/p> ?v . }
+P Q And|{ { ?s <http://a/p> ?v . } { ?s <http://a/q> ?w . } }
+P Q Union|{ { ?s <http://a/p> ?v . } UNION { ?s <http://a/q> ?w . } }
+P Empty Minus|{ { ?s <http://a/p> ?v . } MINUS { } }
+P Empty true LeftJoin|{ { ?s <http://a/p> ?v . } OPTIONAL { { } } }
+P Empty !w LeftJoin|{ { ?s <http://a/p> ?v . } OPTIONAL { { } FILTER ( bound(?w) ) } }
+Empty ?v=\"x Filter|{ { } FILTER ( sameTerm(?v, \"x\") ) }
+Empty !w not Filter|{ { } FILTER ( ( ! bound(?w) ) ) }
+Empty true !w and Filter|{ { } FILTER ( ( true && bound(?w) ) ) }
+Empty true !w or Filter|{ { } FILTER ( ( true || bound(?w) ) ) }
+Empty Select:a>b,c>c|{ SELECT (?a AS ?b) ?c WHERE { } }";
+
+fn headed(alloc: Global, header: &Vars, pattern: &Pattern) -> Option<String> {
+    if is_well_formed(pattern) && header.len() > 0 {
+        sparql_text(alloc, header, pattern).ok()
+    } else {
+        None
+    }
+}
+
+// The text of a copy.
+fn told(alloc: Global, words: &str) -> Option<String> {
+    let pattern = pattern(alloc, words)?;
+    let copy = pattern.copy(alloc).ok()?;
+    let header = header(alloc, "a b")?;
+    headed(alloc, &header, &copy)
+}
+
+fn is_told(alloc: Global, case: &str) -> Option<bool> {
+    let (words, expected) = case.split_once('|')?;
+    let found = told(alloc, words)?;
+    let text = found.as_str().strip_prefix("SELECT DISTINCT ?a ?b WHERE ");
+    Some(text == Some(expected))
+}
+
+// Well-formed patterns, and then others.
+const FORMED: &str = "P Select:s>k,v>v|P Q true LeftJoin Select:s>k";
+
+const UNFORMED: &str = "P Select|P Select:s>k,v>k|P P Select:s>k,v>k Union";
+
+fn is_formed(alloc: Global, words: &str) -> Option<bool> {
+    let pattern = pattern(alloc, words)?;
+    Some(is_well_formed(&pattern))
+}
+
+#[test]
+fn texts(rt: HostRuntime) -> Result<(), Fail> {
+    for case in TEXTS.lines() {
+        let found = is_told(rt.alloc(), case);
+        assert!(rt; found == Some(true), "{case}");
+    }
+    for words in FORMED.split('|') {
+        let found = is_formed(rt.alloc(), words);
+        assert!(rt; found == Some(true), "{words}");
+    }
+    for words in UNFORMED.split('|') {
+        let found = is_formed(rt.alloc(), words);
+        assert!(rt; found == Some(false), "{words}");
+    }
+    Ok(())
+}
+
+const MANY: u32 = 600_000;
+
+fn add_two(alloc: Global, list: &mut Triples, number: u32) -> Option<()> {
+    let subject = format!(in alloc; "{number}").ok()?;
+    add(alloc, list, subject.as_str(), "p", "x")?;
+    add(alloc, list, subject.as_str(), "q", "z")
+}
+
+fn many(alloc: Global) -> Option<Graph> {
+    let mut triples = Triples::new(alloc);
+    for before in 0..MANY {
+        add_two(alloc, &mut triples, before + 1)?;
+    }
+    built(alloc, triples)
+}
+
+fn number(alloc: Global, graph: &Graph, word: &str) -> Option<u32> {
+    graph.id_of(&Term::Iri(iri(alloc, word)?))
+}
+
+fn has_one(alloc: Global, graph: &Graph, subject: u32, predicate: u32) -> Option<bool> {
+    let word = format!(in alloc; "{subject}").ok()?;
+    let number = number(alloc, graph, word.as_str())?;
+    Some(graph.find(number, predicate, 0).count() == 1)
+}
+
+// Whether each subject has one value.
+fn have_one(alloc: Global, graph: &Graph) -> Option<bool> {
+    let predicate = number(alloc, graph, "p")?;
+    for before in 0..MANY {
+        if has_one(alloc, graph, before + 1, predicate) != Some(true) {
+            return Some(false);
+        }
+    }
+    Some(true)
+}
+
+fn solved(alloc: Global, graph: &Graph, pattern: &Pattern) -> Option<usize> {
+    if is_well_formed(pattern) {
+        let solutions = solve(alloc, pattern, graph).ok()?;
+        Some(solutions.len())
+    } else {
+        None
+    }
+}
+
+fn count(alloc: Global, graph: &Graph, words: &str) -> Option<usize> {
+    let pattern = pattern(alloc, words)?;
+    solved(alloc, graph, &pattern)
+}
+
+// How many triples there are, and how many solutions of a join and of a difference; and whether each subject has one value.
+fn counts(alloc: Global) -> Option<(usize, usize, usize, bool)> {
+    let graph = many(alloc)?;
+    let joined = count(alloc, &graph, "P Q And")?;
+    let left = count(alloc, &graph, "P Q Minus")?;
+    let single = have_one(alloc, &graph)?;
+    Some((graph.len(), joined, left, single))
+}
+
+#[test]
+fn many_subjects(rt: HostRuntime) -> Result<(), Fail> {
+    let found = counts(rt.alloc());
+    assert!(rt; found == Some((1_200_000, 600_000, 0, true)));
+    Ok(())
+}
