@@ -1,0 +1,6 @@
+mod AppendedRows
+mod SameNodes
+mod Staying
+mod SameLists
+mod OneRow
+mod Enlarging
