@@ -133,16 +133,20 @@ fn of_patterns(alloc: Global, stack: &mut Vec<Pattern>, word: &str) -> Option<Pa
 }
 
 fn left_join(alloc: Global, stack: &mut Stack) -> Option<Pattern> {
-    let condition = stack.conditions.pop()?;
     let right = part(alloc, &mut stack.patterns)?;
     let left = part(alloc, &mut stack.patterns)?;
-    Some(Pattern::LeftJoin(left, right, condition))
+    match stack.conditions.pop() {
+        Some(condition) => Some(Pattern::LeftJoin(left, right, condition)),
+        None => None,
+    }
 }
 
 fn filter(alloc: Global, stack: &mut Stack) -> Option<Pattern> {
-    let condition = stack.conditions.pop()?;
     let part = part(alloc, &mut stack.patterns)?;
-    Some(Pattern::Filter(part, condition))
+    match stack.conditions.pop() {
+        Some(condition) => Some(Pattern::Filter(part, condition)),
+        None => None,
+    }
 }
 
 fn add_rename(alloc: Global, list: &mut Renames, pair: &str) -> Option<()> {
@@ -197,21 +201,31 @@ fn push(alloc: Global, stack: &mut Stack, word: &str) -> Option<()> {
     }
 }
 
-fn pattern(alloc: Global, words: &str) -> Option<Pattern> {
+fn push_words(alloc: Global, stack: &mut Stack, words: &str) -> Option<()> {
+    for word in words.split(' ') {
+        push(alloc, stack, word)?;
+    }
+    Some(())
+}
+
+// The pattern of these words stands last.
+fn read(alloc: Global, words: &str) -> Option<Stack> {
     let mut stack = Stack {
         patterns: Vec::new(alloc),
         conditions: Vec::new(alloc),
     };
-    for word in words.split(' ') {
-        push(alloc, &mut stack, word)?;
-    }
-    stack.patterns.pop()
+    push_words(alloc, &mut stack, words)?;
+    Some(stack)
+}
+
+fn push_var(alloc: Global, header: &mut Vars, name: &str) -> Option<()> {
+    header.push(var(alloc, name)?).ok()
 }
 
 fn header(alloc: Global, names: &str) -> Option<Vars> {
     let mut header = Vars::new(alloc);
     for name in names.split(' ') {
-        header.push(var(alloc, name)?).ok()?;
+        push_var(alloc, &mut header, name)?;
     }
     Some(header)
 }
@@ -254,10 +268,10 @@ fn lines(alloc: Global, grid: &Grid) -> Option<Vec<String>> {
 }
 
 fn answer(alloc: Global, words: &str, names: &str) -> Option<Vec<String>> {
-    let pattern = pattern(alloc, words)?;
+    let stack = read(alloc, words)?;
     let graph = graph(alloc)?;
     let header = header(alloc, names)?;
-    let grid = grid(alloc, &pattern, &graph, &header)?;
+    let grid = grid(alloc, stack.patterns.last()?, &graph, &header)?;
     lines(alloc, &grid)
 }
 
@@ -391,12 +405,17 @@ fn headed(alloc: Global, header: &Vars, pattern: &Pattern) -> Option<String> {
     }
 }
 
+fn push_copy(alloc: Global, patterns: &mut Vec<Pattern>) -> Option<()> {
+    let copy = patterns.last()?.copy(alloc).ok()?;
+    patterns.push(copy).ok()
+}
+
 // The text of a copy.
 fn told(alloc: Global, words: &str) -> Option<String> {
-    let pattern = pattern(alloc, words)?;
-    let copy = pattern.copy(alloc).ok()?;
+    let mut stack = read(alloc, words)?;
+    push_copy(alloc, &mut stack.patterns)?;
     let header = header(alloc, "a b")?;
-    headed(alloc, &header, &copy)
+    headed(alloc, &header, stack.patterns.last()?)
 }
 
 fn is_told(alloc: Global, case: &str) -> Option<bool> {
@@ -412,8 +431,8 @@ const FORMED: &str = "P Select:s>k,v>v|P Q true LeftJoin Select:s>k";
 const UNFORMED: &str = "P Select|P Select:s>k,v>k|P P Select:s>k,v>k Union";
 
 fn is_formed(alloc: Global, words: &str) -> Option<bool> {
-    let pattern = pattern(alloc, words)?;
-    Some(is_well_formed(&pattern))
+    let stack = read(alloc, words)?;
+    Some(is_well_formed(stack.patterns.last()?))
 }
 
 #[test]
@@ -480,8 +499,8 @@ fn solved(alloc: Global, graph: &Graph, pattern: &Pattern) -> Option<usize> {
 }
 
 fn count(alloc: Global, graph: &Graph, words: &str) -> Option<usize> {
-    let pattern = pattern(alloc, words)?;
-    solved(alloc, graph, &pattern)
+    let stack = read(alloc, words)?;
+    solved(alloc, graph, stack.patterns.last()?)
 }
 
 // How many triples there are, and how many solutions of a join and of a difference; and whether each subject has one value.
