@@ -124,12 +124,7 @@ fn push_names(out: &mut String, names: &[Text]) -> Option<()> {
     out.push('|').ok()
 }
 
-fn push_attributes(
-    alloc: Global,
-    out: &mut String,
-    schema: &Schema,
-    query: &Query,
-) -> Option<()> {
+fn push_attributes(alloc: Global, out: &mut String, schema: &Schema, query: &Query) -> Option<()> {
     check_query(alloc, schema, query).ok()?;
     let names = attributes(alloc, schema, query).ok()?;
     push_names(out, names.as_slice())
