@@ -1,6 +1,6 @@
-mod AppendedRows
+pub mod AppendedRows
 mod SameNodes
 mod Staying
 mod SameLists
 mod OneRow
-mod Enlarging
+pub mod Enlarging

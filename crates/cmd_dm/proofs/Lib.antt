@@ -6,7 +6,9 @@ pub mod StepLaws
 pub mod Found
 pub mod Subjects
 pub mod FileLemmas
+pub mod PlainLimits
+pub mod Further
+pub mod Batches
 pub mod SomeOutcome
 pub mod StoredTables
-pub mod PlainLimits
 pub mod Promises

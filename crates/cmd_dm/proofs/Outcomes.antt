@@ -29,16 +29,23 @@ use Rattle.ntriples_reader_dm.proofs.OneAnswer.{one_answer}
 use Rattle.consistency_dm.proofs.FirstConflicts.{one_verdict}
 use Rattle.keys_dm.specs.Violations.{ViolatesAt}
 use Rattle.graphs_dm.proofs.GraphLevels.{graph_text_unique}
-use Rattle.cmd_dm.specs.Questions.{Question, AnswerTo, Answers, IsSchemaAnswer, IsRowsAnswer, IsTriplesAnswer, schema_of, rows_of, triples_of, verdict_of, violations_of, graph_of, removals_of, left_of, files_of, inverse_of}
+use Rattle.algebra_dm.specs.declared.error.QueryError.{QueryError}
+use Rattle.algebra_dm.specs.declared.error.QueryError.TheVariants as query
+use Rattle.algebra_dm.specs.declared.query.Query.{Query}
+use Rattle.query_text_dm.proofs.OneAnswer.{one_answer as one_read}
+use Rattle.query_lines_dm.proofs.OneText.{query_lines_one}
+use Rattle.cmd_dm.specs.Questions.{Question, AnswerTo, Answers, IsSchemaAnswer, IsRowsAnswer, IsTriplesAnswer, IsQueryAnswer, schema_of, rows_of, triples_of, verdict_of, violations_of, graph_of, batch_of, removals_of, left_of, files_of, inverse_of, query_of, lines_of}
 use Rattle.outside_dm.specs.Storing.{Batch}
 use Rattle.schema_dm.specs.declared.table.ShapeTable.{ShapeTable}
 use Rattle.table_csv.proofs.OneText.{text_one}
 use Rattle.clean_dm.specs.Removing.{IsLeft}
 use Rattle.clean_dm.proofs.OneCleaning.{one_cleaning}
 use Rattle.clean_dm.proofs.RowsLeft.{rows_one}
+use Rattle.append_dm.specs.Appended.{appended}
 use Rattle.cmd_dm.specs.Folder.{AreFilesOf}
+use Rattle.cmd_dm.proofs.Batches.{batch_text_unique}
 use Rattle.cmd_dm.proofs.Inverses.{inverse_answer_unique}
-use Rattle.cmd_dm.specs.Reasons.{ddl_status, graph_status, table_status}
+use Rattle.cmd_dm.specs.Reasons.{ddl_status, graph_status, query_status, table_status}
 use Rattle.cmd_dm.specs.Script.{Script, Outcome, too_long, load, ask, refuse, write, AfterLoad, Comes}
 use Rattle.cmd_dm.specs.declared.status.File.{File}
 use Rattle.cmd_dm.specs.declared.status.Reason.{Reason}
@@ -129,6 +136,40 @@ triples_answer_unique bytes (Err r) (Err s) h k =
     (one_answer bytes (Err h.0) (Err k.0) h.1 k.1 (err_answered h.0 (told_graph h.0 r h.2)) (err_answered k.0 (told_graph k.0 s k.2))) in
     ap Err (refusal_one r s (sym h.2 ∙ ap graph_status same ∙ k.2))
 
+-- ---- queries
+
+abbrev Asked : Type 0
+Asked = Result Query QueryError
+
+told_query : (error : QueryError) (reason : Reason) → query_status error ≡ Refused reason → ¬ (◌≡◌ {A = Asked} (Err error) (Err query.Memory))
+told_query error reason told memory = no_refusal reason (sym (ap query_status (faults_one error query.Memory memory)) ∙ told)
+  where
+    faults_one : (e f : QueryError) → ◌≡◌ {A = Asked} (Err e) (Err f) → e ≡ f
+    faults_one e f same = cc
+
+query_told : (q : Query) → ¬ (◌≡◌ {A = Asked} (Ok q) (Err query.Memory))
+query_told q e = absurd cc
+
+no_query : (tables : List Table) (bytes : List ℕ) (q : Query) (reason : Reason) → IsQueryAnswer tables bytes (Ok q) → IsQueryAnswer tables bytes (Err reason) → ⊥
+no_query tables bytes q reason h k = apart q k.0 (one_read tables bytes (Ok q) (Err k.0) (query_told q) (told_query k.0 reason k.2) h k.1)
+  where
+    apart : (q : Query) (e : QueryError) → ◌≡◌ {A = Asked} (Ok q) (Err e) → ⊥
+    apart q e same = cc
+
+pub query_answer_unique : (tables : List Table) (bytes : List ℕ) (a b : Result Query Reason) → IsQueryAnswer tables bytes a → IsQueryAnswer tables bytes b → a ≡ b
+query_answer_unique tables bytes (Ok p) (Ok q) h k = ap Ok (queries_one p q (one_read tables bytes (Ok p) (Ok q) (query_told p) (query_told q) h k))
+  where
+    queries_one : (p q : Query) → ◌≡◌ {A = Asked} (Ok p) (Ok q) → p ≡ q
+    queries_one p q e = cc
+query_answer_unique tables bytes (Ok p) (Err r) h k = absurd (no_query tables bytes p r h k)
+query_answer_unique tables bytes (Err r) (Ok q) h k = absurd (no_query tables bytes q r k h)
+query_answer_unique tables bytes (Err r) (Err s) h k =
+    let same = faults_one h.0 k.0 (one_read tables bytes (Err h.0) (Err k.0) (told_query h.0 r h.2) (told_query k.0 s k.2) h.1 k.1) in
+    ap Err (refusal_one r s (sym h.2 ∙ ap query_status same ∙ k.2))
+  where
+    faults_one : (e f : QueryError) → ◌≡◌ {A = Asked} (Err e) (Err f) → e ≡ f
+    faults_one e f same = cc
+
 -- ---- files
 
 pub files_one : (folder : List ℕ) (tables : List ShapeTable) (rows : List (List Row)) (a b : Batch) → AreFilesOf folder tables rows a → AreFilesOf folder tables rows b → a ≡ b
@@ -157,10 +198,13 @@ answer_unique (violations_of D) a b h k = listing_unique (ViolatesAt D) a b h k
 answer_unique (triples_of bytes) a b h k = triples_answer_unique bytes a b h k
 answer_unique (verdict_of triples) a b h k = one_verdict triples a b h k
 answer_unique (graph_of name base D) a b h k = graph_text_unique name base D a b h k
+answer_unique (batch_of base D batch) a b h k = batch_text_unique base D (appended D batch) a b h k
 answer_unique (removals_of D) a b h k = one_cleaning D a b h k
 answer_unique (left_of D removals) a b h k = rows_one D (IsLeft removals) a b h k
 answer_unique (files_of folder tables rows) a b h k = files_one folder tables rows a b h k
 answer_unique (inverse_of base triples folder) a b h k = inverse_answer_unique base h.0 triples folder a b h.1 k.1
+answer_unique (query_of tables bytes) a b h k = query_answer_unique tables bytes a b h k
+answer_unique (lines_of D q) a b h k = query_lines_one D q a b h k
 
 after_load_unique : (file : File) (content : Option (List ℕ)) (rest : List ℕ → Outcome → Type 0) →
     ((bytes : List ℕ) (o p : Outcome) → rest bytes o → rest bytes p → o ≡ p) →

@@ -25,7 +25,7 @@ paired R (x ∷ xs) [] h y m = absurd m
 paired R (x ∷ xs) (z ∷ ys) h y (inl is) = (x, subst (λ w. R x w) is h.0)
 paired R (x ∷ xs) (z ∷ ys) h y (inr m) = paired R xs ys h.1 y m
 
-few_rows : (tables : List Table) (rows : List (List Row)) (place : ℕ) → AllZip (λ (table : Table) (rows : List Row). AreRowsOf table.columns rows) tables rows → length (rows_at rows place) ≤ 4194304
+pub few_rows : (tables : List Table) (rows : List (List Row)) (place : ℕ) → AllZip (λ (table : Table) (rows : List Row). AreRowsOf table.columns rows) tables rows → length (rows_at rows place) ≤ 4194304
 few_rows [] [] place fit = omega arith
 few_rows [] (r ∷ rows) place fit = absurd fit
 few_rows (t ∷ tables) [] place fit = absurd fit

@@ -1,5 +1,5 @@
 -- What follows of how a run ended for the words as a whole.
-use Rattle.std.proofs.Common.{◌≡◌, ◌∙◌, refl, sym, ap, subst, inl, inr, ◌⊎◌, ℕ, ◌+◌, ◌≤◌, List, [], ◌∷◌, length, Option, Some, None, Result, Ok, Err, true, false, Bool, cond, arith, zero, suc, ◌<◌}
+use Rattle.std.proofs.Common.{◌≡◌, ◌∙◌, refl, sym, ap, subst, inl, inr, ◌⊎◌, ℕ, ◌+◌, ◌≤◌, List, [], ◌∷◌, length, Option, Some, None, Result, Ok, Err, true, false, Bool, cond, arith, zero, suc, ◌<◌, nat_lt}
 use Rattle.std.specs.Prelude.{◌↔◌, IsTrue, IfSome, MatchBool, encode_utf8_all, map}
 use Rattle.std.specs.List.{AllZip, flat_map}
 use Rattle.std.specs.FinMap.{get}
@@ -27,6 +27,8 @@ use Rattle.table_csv.proofs.FittingRows.{read_rows_fit}
 use Rattle.table_csv.proofs.HeaderLemmas.{fields_differ}
 use Rattle.consistency_dm.specs.Conflicts.{IsVerdict}
 use Rattle.consistency_dm.specs.declared.verdict.Verdict.{Verdict}
+use Rattle.append_dm.specs.Appended.{IsBatchFor, appended}
+use Rattle.append_dm.specs.Batches.{IsBatchText}
 use Rattle.clean_dm.specs.Removing.{IsLeft}
 use Rattle.clean_dm.proofs.KeptRows.{kept_keeps}
 use Rattle.clean_dm.proofs.OneCleaning.{cleaning_is_largest}
@@ -48,11 +50,19 @@ use Rattle.layouts_dm.specs.LayoutTables.{StandsFor}
 use Rattle.inverse_dm.specs.Answers.{Refuses, StandsWithin}
 use Rattle.inverse_dm.specs.declared.error.InverseError.{InverseError}
 use Rattle.inverse_dm.specs.declared.error.InverseError.TheVariants as inverse
+use Rattle.algebra_dm.specs.Nodes.{IsFaultless}
+use Rattle.algebra_dm.specs.declared.error.QueryError.{QueryError}
+use Rattle.algebra_dm.specs.declared.error.QueryError.TheVariants as query
+use Rattle.algebra_dm.specs.declared.query.Query.{Query as Asked}
+use Rattle.query_text_dm.specs.Answer.{IsAnswer, IsTextOfQuery}
+use Rattle.query_lines_dm.specs.Lines.{AreQueryLines}
 use Rattle.graphs_dm.proofs.Contradictions.{interpreted_below}
 use Rattle.graphs_dm.specs.declared.graph_name.GraphName.{GraphName}
 use Rattle.graphs_dm.specs.declared.graph_name.GraphName.TheVariants as graph
+use Rattle.cmd_dm.specs.Append.{append_script, batch_keys_step, batch_script, few_step, further_rows_step, further_tables_step, more_step, on_batch_violations}
 use Rattle.cmd_dm.specs.Check.{check_script, check_text}
 use Rattle.cmd_dm.specs.Consistent.{consistent_script, verdict_text}
+use Rattle.cmd_dm.specs.Rows.{rows_script}
 use Rattle.cmd_dm.specs.Show.{show_script}
 use Rattle.cmd_dm.specs.GraphScript.{graph_script}
 use Rattle.cmd_dm.specs.Ending.{Ends, NoFault, Target, to_output, to_both, to_shelf}
@@ -61,18 +71,20 @@ use Rattle.cmd_dm.proofs.Inverses.{inverse_answer_unique, inverse_files, files_s
 use Rattle.cmd_dm.proofs.StoredTables.{are_stored}
 use Rattle.cmd_dm.proofs.PlainLimits.{plain_within}
 use Rattle.cmd_dm.specs.Folder.{schema_file, table_file, shape_of}
-use Rattle.cmd_dm.specs.Headline.{HoldsFile, HoldsTables, HoldsDatabase, EndsSo, WritesText, WritesKept, WritesFolder, Checks, Shows, Judges, Promises, Cleans, IsCleanWork, TellsKeys, Inverts, StoresTables, AreStored, GivesBack, IsGraphFile}
-use Rattle.cmd_dm.specs.Plans.{IsOutcome, NamesFile, folder_file, graph_file, plan_of}
-use Rattle.cmd_dm.specs.Questions.{IsInverseAnswer, violations_of, verdict_of, graph_of, removals_of, left_of, files_of}
+use Rattle.cmd_dm.specs.Headline.{HoldsFile, HoldsTables, HoldsDatabase, EndsSo, WritesText, WritesKept, WritesFolder, Checks, Shows, Judges, Promises, Cleans, IsCleanWork, TellsKeys, Inverts, StoresTables, AreStored, GivesBack, IsGraphFile, AnswersQuery, WritesBatch}
+use Rattle.cmd_dm.specs.Plans.{IsOutcome, NamesFile, folder_file, graph_file, plan_of, rows_file}
+use Rattle.cmd_dm.specs.Questions.{IsInverseAnswer, IsQueryAnswer, batch_of, lines_of, violations_of, verdict_of, graph_of, removals_of, left_of, files_of}
 use Rattle.cmd_dm.specs.Clean.{clean_script, clean_work}
-use Rattle.cmd_dm.specs.Reasons.{bad_base, inverse_status, key_reason}
+use Rattle.cmd_dm.specs.Reasons.{bad_base, batch_reason, inverse_status, key_reason, query_status, reason}
 use Rattle.cmd_dm.specs.Script.{Script, Work, Outcome, usage, refused, done, text_work, too_long, status_of, Comes, AfterLoad, MayLoad, ask, write, refuse}
-use Rattle.cmd_dm.specs.Steps.{base_step, schema_step, rows_step, tables_step, database_step, folder_step, graph_step, inverse_step, kept_step, keys_step, triples_step, on_answer, on_violations}
+use Rattle.cmd_dm.specs.Steps.{base_step, schema_step, rows_step, tables_step, database_step, folder_step, graph_step, inverse_step, kept_step, keys_step, triples_step, query_step, query_text_step, on_answer, on_violations}
+use Rattle.cmd_dm.proofs.Batches.{batch_enlarges_so}
 use Rattle.cmd_dm.proofs.Endings.{ends_exact, status_comes}
-use Rattle.cmd_dm.proofs.Outcomes.{outcome_unique, schema_answer_unique, rows_answer_unique, triples_answer_unique}
+use Rattle.cmd_dm.proofs.Further.{FewBehind, few_first, few_rest, from_first}
+use Rattle.cmd_dm.proofs.Outcomes.{outcome_unique, schema_answer_unique, rows_answer_unique, triples_answer_unique, query_answer_unique}
 use Rattle.cmd_dm.proofs.SomeOutcome.{declared_schema}
 use Rattle.cmd_dm.specs.declared.command.Command.{Command}
-use Rattle.cmd_dm.specs.declared.command.Command.TheVariants.{Direct, Map, MapKeys, Check, Show, Consistent, Clean, Invert}
+use Rattle.cmd_dm.specs.declared.command.Command.TheVariants.{Direct, Map, MapKeys, Check, Show, Consistent, Clean, Append, Invert, Rows}
 use Rattle.cmd_dm.specs.declared.status.File.{File}
 use Rattle.cmd_dm.specs.declared.status.File.TheVariants.{Schema, Table as TableFile, Query, Graph, Pattern, More}
 use Rattle.cmd_dm.specs.declared.status.Reason.{Reason}
@@ -223,13 +235,130 @@ invert_names base document out file name h =
     (λ triples k. answer_may_load k.0 (λ files. write (files_work files)) file name ⊥ (λ files k. k) k.1.1)
     (base_may_load (is_base base) (graph_step document (stored_from base out)) file name h))
 
+-- what is done behind the query, and behind the database
+abbrev told_lines : Data → Asked → Script
+told_lines D q = ask (lines_of D q) (λ text. write (text_work text))
+
+abbrev asked : List ℕ → Data → Script
+asked document D = query_step D.tables document (told_lines D)
+
+-- behind the query nothing is loaded
+query_may_load : (tables : List Table) (document : List ℕ) (next : Asked → Script) (file : File) (name : List ℕ) → ((q : Asked) → ¬ MayLoad (next q) file name) → MayLoad (query_step tables document next) file name →
+    (file ≡ Query) × (name ≡ encode_utf8_all document)
+unfolding query_step query_text_step
+query_may_load tables document next file name none (inl h) = (sym h.0, sym h.1)
+query_may_load tables document next file name none (inr h) =
+    answer_may_load h.1.1.0 next file name ((file ≡ Query) × (name ≡ encode_utf8_all document)) (λ q k. absurd (none q k)) h.1.1.1.1
+
+asked_may_load : (document : List ℕ) (D : Data) (file : File) (name : List ℕ) → MayLoad (asked document D) file name → (file ≡ Query) × (name ≡ encode_utf8_all document)
+asked_may_load document D file name h = query_may_load D.tables document (told_lines D) file name (λ q k. k.1.1) h
+
+-- the query is loaded behind the tables
+tables_behind : (folder : List ℕ) (mode : NullMode) (before : ℕ) (tables : List Table) (next : List (List Row) → Script) (name : List ℕ) → MayLoad (tables_step folder mode before tables next) Query name →
+    (rows : List (List Row)) × MayLoad (next rows) Query name
+unfolding tables_step rows_step
+tables_behind folder mode before [] next name h = ([], h)
+tables_behind folder mode before (table ∷ tables) next name (inl h) = absurd (no_table (before + 1) h.0)
+  where
+    no_table : (number : ℕ) → TableFile number ≡ Query → ⊥
+    no_table number e = absurd cc
+tables_behind folder mode before (table ∷ tables) next name (inr h) =
+    answer_may_load h.1.1.0 (λ rows. tables_step folder mode (before + 1) tables (λ others. next (rows ∷ others))) Query name ((rows : List (List Row)) × MayLoad (next rows) Query name)
+    (λ rows k. let found = tables_behind folder mode (before + 1) tables (λ others. next (rows ∷ others)) name k in (rows ∷ found.0, found.1)) h.1.1.1.1
+
+folder_behind : (folder : List ℕ) (mode : NullMode) (next : LoadedFolder → Script) (name : List ℕ) → MayLoad (folder_step folder mode next) Query name → (loaded : LoadedFolder) × MayLoad (next loaded) Query name
+unfolding folder_step schema_step
+folder_behind folder mode next name (inl h) = absurd (no_schema h.0)
+  where
+    no_schema : Schema ≡ Query → ⊥
+    no_schema e = absurd cc
+folder_behind folder mode next name (inr h) =
+    let loaded : List Table → List (List Row) → LoadedFolder = λ tables rows. record { schema = h.0; database = record { tables = tables; rows = rows } } in
+    answer_may_load h.1.1.0 (λ tables. tables_step folder mode 0 tables (λ rows. next (loaded tables rows))) Query name ((loaded : LoadedFolder) × MayLoad (next loaded) Query name)
+    (λ tables k. let found = tables_behind folder mode 0 tables (λ rows. next (loaded tables rows)) name k in (loaded tables found.0, found.1)) h.1.1.1.1
+
+rows_names : (folder document : List ℕ) (nulls : NullMode) (file : File) (name : List ℕ) → MayLoad (rows_script folder document nulls) file name → IfSome (rows_file folder document file) (λ named. name ≡ named)
+unfolding database_step
+rows_names folder document nulls Schema name h = schema_may_load folder nulls (λ loaded. asked document loaded.database) name (λ loaded k. no_query (asked_may_load document loaded.database Schema name k).0) h
+  where
+    no_query : Schema ≡ Query → ⊥
+    no_query e = absurd cc
+rows_names folder document nulls (TableFile number) name h = tt
+rows_names folder document nulls Query name h = let found = folder_behind folder nulls (λ loaded. asked document loaded.database) name h in (asked_may_load document found.0.database Query name found.1).1
+rows_names folder document nulls Graph name h = tt
+rows_names folder document nulls Pattern name h = tt
+rows_names folder document nulls (More number) name h = tt
+
+-- behind the number of rows what is next alone is loaded
+few_may_load : (number count : ℕ) (next : Unit {0} → Script) (file : File) (name : List ℕ) → MayLoad (few_step number count next) file name → MayLoad (next tt) file name
+unfolding few_step
+few_may_load number count next file name h = by_test (nat_lt 4194304 count) h
+  where
+    by_test : (over : Bool) → MayLoad (cond over (refuse (reason 25 number 0 0)) (next tt)) file name → MayLoad (next tt) file name
+    by_test true h = absurd h
+    by_test false h = h
+
+-- the files of further rows alone are loaded
+further_may_load : (folder : List ℕ) (mode : NullMode) (many : ℕ) (held : List (List Row)) (before : ℕ) (tables : List Table) (next : List (List Row) → Script) (file : File) (name : List ℕ) →
+    ((rows : List (List Row)) → ¬ MayLoad (next rows) file name) → MayLoad (further_tables_step folder mode many held before tables next) file name → (number : ℕ) × (More number ≡ file)
+unfolding further_tables_step further_rows_step rows_step
+further_may_load folder mode many held before [] next file name none h = absurd (none [] h)
+further_may_load folder mode many held before (table ∷ tables) next file name none (inl h) = (before + 1, h.0)
+further_may_load folder mode many held before (table ∷ tables) next file name none (inr h) =
+    let step : List Row → Script = λ rows. further_tables_step folder mode many held (before + 1) tables (λ others. next (rows ∷ others)) in
+    let count : List Row → ℕ = λ rows. length (rows_at held before) + length rows in
+    answer_may_load h.1.1.0 (λ rows. few_step (before + 1 + many) (count rows) (λ _. step rows)) file name ((number : ℕ) × (More number ≡ file))
+    (λ rows k. further_may_load folder mode many held (before + 1) tables (λ others. next (rows ∷ others)) file name (λ others. none (rows ∷ others))
+    (few_may_load (before + 1 + many) (count rows) (λ _. step rows) file name k)) h.1.1.1.1
+
+batch_keys_load_nothing : (whole : Data) (next : Unit {0} → Script) (file : File) (name : List ℕ) → ¬ MayLoad (next tt) file name → ¬ MayLoad (batch_keys_step whole next) file name
+unfolding batch_keys_step
+batch_keys_load_nothing whole next file name none h = by_found h.0 h.1.1
+  where
+    by_found : (found : List Violation) → ¬ MayLoad (on_batch_violations found next) file name
+    by_found [] h = none h
+    by_found (violation ∷ others) h = h
+
+-- what is done behind the keys
+abbrev put_batch : List ℕ → Data → Data → Script
+put_batch base D batch = ask (batch_of base D batch) (λ text. write (text_work text))
+
+-- what is done behind the database
+abbrev enlarged : List ℕ → List ℕ → NullMode → Data → Script
+enlarged base more nulls D = more_step more nulls D (λ batch. batch_script base D batch)
+
+enlarged_may_load : (base more : List ℕ) (nulls : NullMode) (D : Data) (file : File) (name : List ℕ) → MayLoad (enlarged base more nulls D) file name → (number : ℕ) × (More number ≡ file)
+unfolding more_step
+enlarged_may_load base more nulls D file name h =
+    let batch : List (List Row) → Data = λ rows. record { tables = D.tables; rows = rows } in
+    further_may_load more nulls (length D.tables) D.rows 0 D.tables (λ rows. batch_script base D (batch rows)) file name (λ rows.
+    keys_load_nothing D (λ _. batch_keys_step (appended D (batch rows)) (λ _. put_batch base D (batch rows))) file name
+    (batch_keys_load_nothing (appended D (batch rows)) (λ _. put_batch base D (batch rows)) file name (λ k. k.1.1))) h
+
+append_names : (base folder more : List ℕ) (nulls : NullMode) (file : File) (name : List ℕ) → MayLoad (append_script base folder more nulls) file name → IfSome (folder_file folder file) (λ named. name ≡ named)
+unfolding base_step database_step
+append_names base folder more nulls Schema name h =
+    schema_may_load folder nulls (λ loaded. enlarged base more nulls loaded.database) name
+    (λ loaded k. let found = enlarged_may_load base more nulls loaded.database Schema name k in no_more found.0 found.1)
+    (base_may_load (is_base base) (database_step folder nulls (enlarged base more nulls)) Schema name h)
+  where
+    no_more : (number : ℕ) → More number ≡ Schema → ⊥
+    no_more number e = absurd cc
+append_names base folder more nulls (TableFile number) name h = tt
+append_names base folder more nulls Query name h = tt
+append_names base folder more nulls Graph name h = tt
+append_names base folder more nulls Pattern name h = tt
+append_names base folder more nulls (More number) name h = tt
+
 command_names : (command : Command) (file : File) (name : List ℕ) → MayLoad (plan_of command).script file name → NamesFile command file name
 command_names (Direct base folder nulls) file name h = graph_names graph.Direct base folder nulls file name h
 command_names (Map base folder nulls) file name h = graph_names graph.Map base folder nulls file name h
 command_names (MapKeys base folder nulls) file name h = graph_names graph.MapKeys base folder nulls file name h
+command_names (Rows folder document nulls) file name h = rows_names folder document nulls file name h
 command_names (Show document) file name h =
     show_names document file name (graph_may_load document (λ triples. write (text_work (flat_map triple_text triples))) file name (λ triples k. k) h)
 command_names (Consistent document) file name h = show_names document file name (graph_may_load document judged file name (λ triples k. k.1.1) h)
+command_names (Append base folder more nulls) file name h = append_names base folder more nulls file name h
 command_names (Invert base document out) file name h = invert_names base document out file name h
 command_names (Clean folder out nulls) file name h = folder_names folder nulls (cleaned out) file name (λ loaded file h. h.1.1.1.1.1.1) h
 command_names (Check folder nulls) file name h = database_names folder nulls checked file name (λ D file h. h.1.1) h
@@ -456,6 +585,44 @@ tells_keys bytes triples document = record {
           (λ kept. one_verdict triples verdict Yes is (interpreted.1 kept)),
         )
 
+-- ---- queries
+
+module _ (folder document : List ℕ) (nulls : NullMode) (files : Files) (D : Data) (bytes : List ℕ) (held : HoldsDatabase files folder nulls D) (there : HoldsFile files (encode_utf8_all document) bytes) where
+  -- a run comes to what the answer leads to
+  rows_come : (outcome : Outcome) → Comes files (rows_script folder document nulls) outcome → (answer : Result Asked Reason) × (IsQueryAnswer D.tables bytes answer × Comes files (on_answer answer (told_lines D)) outcome)
+  unfolding query_step query_text_step
+  rows_come outcome h =
+      let behind = database_comes files folder nulls D (asked document) outcome held h in
+      after_load Query (get files (encode_utf8_all document)) bytes (λ bytes. Comes files (query_text_step D.tables bytes (told_lines D)) outcome) outcome there.held there.short behind
+
+  module _ {s t : ShelfState} {o p : SinkState} (status : Status) (ends : Ends to_output (rows_script folder document nulls) s t o p status) (told : s.files ≡ Some files) where
+    writes_lines : (q : Asked) → IsAnswer D.tables bytes (Ok q) → WritesText (AreQueryLines D q) s t o p status
+    writes_lines q is = writes_text (AreQueryLines D q) (rows_script folder document nulls) status files ends told (λ outcome h.
+        let found = rows_come outcome h in
+        let right = query_answer_unique D.tables bytes found.0 (Ok q) found.1.0 is in
+        let known = on_known files found.0 q (told_lines D) outcome right found.1.1 in
+        (known.0, (known.1.0, known.1.1)))
+
+    refuses_query : (reason : Reason) → IsQueryAnswer D.tables bytes (Err reason) → EndsSo (Refused reason) s t o p status
+    refuses_query reason right = ends_so files (refused reason) ends told (λ outcome h.
+        let found = rows_come outcome h in
+        let same = query_answer_unique D.tables bytes found.0 (Err reason) found.1.0 right in
+        subst (λ (answer : Result Asked Reason). Comes files (on_answer answer (told_lines D)) outcome) same found.1.1)
+
+    refuses_fault : (error : QueryError) → ¬ (error ≡ query.Memory) → IsAnswer D.tables bytes (Err error) → EndsSo (query_status error) s t o p status
+    refuses_fault (query.BadQuery place) other h = refuses_query _ (query.BadQuery place, h, refl)
+    refuses_fault (query.TooDeep place) other h = refuses_query _ (query.TooDeep place, h, refl)
+    refuses_fault query.NoSuchTable other h = refuses_query _ (query.NoSuchTable, h, refl)
+    refuses_fault query.NoSuchColumn other h = refuses_query _ (query.NoSuchColumn, h, refl)
+    refuses_fault query.NameTaken other h = refuses_query _ (query.NameTaken, h, refl)
+    refuses_fault query.NotSameColumns other h = refuses_query _ (query.NotSameColumns, h, refl)
+    refuses_fault query.EmptyProject other h = refuses_query _ (query.EmptyProject, h, refl)
+    refuses_fault query.TooWide other h = refuses_query _ (query.TooWide, h, refl)
+    refuses_fault query.Memory other h = absurd (other refl)
+
+    answers_query : AnswersQuery D bytes s t o p status
+    answers_query = record { answered = λ q text faultless. writes_lines q (text, faultless); refused = refuses_fault }
+
 -- ---- tables that come back
 
 abbrev store : Batch → Script
@@ -542,6 +709,76 @@ module _ (base document out : List ℕ) (files : Files) (bytes : List ℕ) (trip
       stands plain plain_is (inr marked) =
           keys_stand base D database (own_nodes base D database) plain plain_is triples (exactly base (is_iri-base base good, text) D database graph.MapKeys bytes triples marked is)
 
+-- ---- batches
+
+-- the batch is the one that its files are
+further_come : (files : Files) (folder : List ℕ) (mode : NullMode) (many : ℕ) (held : List (List Row)) (before : ℕ) (tables : List Table) (rows : List (List Row)) (next : List (List Row) → Script) (outcome : Outcome) →
+    HoldsTables files folder mode tables rows → FewBehind held before rows → Comes files (further_tables_step folder mode many held before tables next) outcome → Comes files (next rows) outcome
+unfolding further_tables_step further_rows_step rows_step few_step
+further_come files folder mode many held before [] [] next outcome there few h = h
+further_come files folder mode many held before [] (r ∷ rows) next outcome there few h = absurd there
+further_come files folder mode many held before (table ∷ tables) [] next outcome there few h = absurd there
+further_come files folder mode many held before (table ∷ tables) (r ∷ rows) next outcome there few h =
+    let number : ℕ = before + 1 + many in
+    let count : ℕ = length (rows_at held before) in
+    let step : List Row → Script = λ found. further_tables_step folder mode many held (before + 1) tables (λ others. next (found ∷ others)) in
+    let asked = after_load (More (before + 1)) (get files (table_file folder table.name)) there.0.bytes (λ bytes. Comes files (further_rows_step table.columns mode number count bytes step) outcome) outcome
+    there.0.holds.held there.0.holds.short h in
+    let right = rows_answer_unique table.columns mode number there.0.bytes asked.0 (Ok r) asked.1.0.0 asked.1.0.1 there.0.reads in
+    let counted = on_known files asked.0 r (λ found. few_step number (count + length found) (λ _. step found)) outcome right asked.1.1 in
+    let goes_on : Comes files (step r) outcome =
+    subst (λ (b : Bool). Comes files (cond b (refuse (reason 25 number 0 0)) (step r)) outcome) (le-ltb 4194304 (count + length r) (few_first held before r rows few)) counted in
+    further_come files folder mode many held (before + 1) tables rows (λ others. next (r ∷ others)) outcome there.1 (few_rest held before r rows few) goes_on
+
+module _ (base folder more : List ℕ) (nulls : NullMode) (files : Files) (D batch : Data) (good : IsTrue (is_base base)) (held : HoldsDatabase files folder nulls D) (fits : IsBatchFor D batch)
+    (there : HoldsTables files more nulls D.tables batch.rows) where
+  -- a run comes to the steps behind the batch
+  batch_comes : (outcome : Outcome) → Comes files (append_script base folder more nulls) outcome → Comes files (batch_script base D batch) outcome
+  unfolding base_step more_step
+  batch_comes outcome h =
+      let loads : Comes files (database_step folder nulls (enlarged base more nulls)) outcome =
+      subst (λ (b : Bool). Comes files (cond b (database_step folder nulls (enlarged base more nulls)) (refuse bad_base)) outcome) good h in
+      let behind = database_comes files folder nulls D (enlarged base more nulls) outcome held loads in
+      subst (λ (tables : List Table). Comes files (batch_script base D (record { tables = tables; rows = batch.rows })) outcome) (sym fits.tables)
+      (further_come files more nulls (length D.tables) D.rows 0 D.tables batch.rows (λ rows. batch_script base D (record { tables = D.tables; rows = rows })) outcome there (from_first D.rows batch.rows fits.few) behind)
+
+  abbrev both_kept : Script
+  both_kept = batch_keys_step (appended D batch) (λ _. put_batch base D batch)
+
+  -- and to what stands behind these violations of the database
+  behind_old : (found : List Violation) → ((asked : List Violation) → IsListing (ViolatesAt D) asked → asked ≡ found) → (outcome : Outcome) → Comes files (append_script base folder more nulls) outcome
+      → Comes files (on_violations found (λ _. both_kept)) outcome
+  unfolding keys_step
+  behind_old found one outcome h =
+      let asked = batch_comes outcome h in
+      subst (λ (v : List Violation). Comes files (on_violations v (λ _. both_kept)) outcome) (one asked.0 asked.1.0) asked.1.1
+
+  -- and, where it has none, behind these of both together
+  behind_both : KeepsKeys D → (found : List Violation) → ((asked : List Violation) → IsListing (ViolatesAt (appended D batch)) asked → asked ≡ found) → (outcome : Outcome)
+      → Comes files (append_script base folder more nulls) outcome → Comes files (on_batch_violations found (λ _. put_batch base D batch)) outcome
+  unfolding batch_keys_step
+  behind_both kept found one outcome h =
+      let asked = behind_old [] (λ asked listed. (none_listed D asked listed).1 kept) outcome h in
+      subst (λ (v : List Violation). Comes files (on_batch_violations v (λ _. put_batch base D batch)) outcome) (one asked.0 asked.1.0) asked.1.1
+
+  writes_batch : {s t : ShelfState} {o p : SinkState} (status : Status) → Ends to_output (append_script base folder more nulls) s t o p status → s.files ≡ Some files → WritesBatch base D batch s t o p status
+  writes_batch status ends told = record {
+    kept = λ kept whole_kept.
+        writes_text (IsBatchText base D (appended D batch)) (append_script base folder more nulls) status files ends told
+        (behind_both kept [] (λ asked listed. (none_listed (appended D batch) asked listed).1 whole_kept));
+    enlarges = λ kept whole_kept. batch_enlarges_so base good D batch (held_database files folder nulls D held) batch_is fits kept whole_kept;
+    violated = λ first others listed. ends_so files (refused (key_reason first)) ends told
+        (behind_old (first ∷ others) (λ asked also. listing_unique (ViolatesAt D) asked (first ∷ others) also listed));
+    batch_violated = λ kept first others listed. ends_so files (refused (batch_reason first)) ends told
+        (behind_both kept (first ∷ others) (λ asked also. listing_unique (ViolatesAt (appended D batch)) asked (first ∷ others) also listed));
+  }
+    where
+      batch_is : IsDatabase batch
+      batch_is =
+          let database = held_database files folder nulls D held in
+          subst (λ (tables : List Table). IsDatabase (record { tables = tables; rows = batch.rows })) (sym fits.tables)
+          (record { schema = database.schema; rows = held_rows files more nulls D.tables batch.rows (λ t m. (database.schema.each t m).distinct) there })
+
 -- each command keeps its promise
 pub promised : (command : Command) {s t : ShelfState} {o p : SinkState} (status : Status) → Ends (plan_of command).target (plan_of command).script s t o p status → Promises command s t o p status
 promised (Direct base folder nulls) status ends = writes_graph graph.Direct base folder nulls status ends
@@ -549,6 +786,8 @@ promised (Map base folder nulls) status ends = writes_graph graph.Map base folde
 promised (MapKeys base folder nulls) status ends = writes_graph graph.MapKeys base folder nulls status ends
 promised (Invert base document out) status ends = λ files bytes triples told good held is few.
     (inverts base document out files bytes triples good held is few status ends told, λ D text database graph_is. gives_back base document out files bytes triples good held is few D text database graph_is status ends told)
+promised (Append base folder more nulls) status ends = λ files D batch told good held fits there. writes_batch base folder more nulls files D batch good held fits there status ends told
+promised (Rows folder document nulls) status ends = λ files D bytes told held there. answers_query folder document nulls files D bytes held there status ends told
 promised (Show document) status ends = λ files bytes triples told held is few. shows document files bytes triples status ends told held is few
 promised (Clean folder out nulls) status ends = λ files D told held. cleans folder out nulls files D status ends told held
 promised (Consistent document) status ends = λ files bytes triples told held is few. (judges document files bytes triples status ends told held is few, tells_keys bytes triples is)

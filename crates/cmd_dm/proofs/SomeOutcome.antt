@@ -3,7 +3,7 @@ use Rattle.std.proofs.Common.{◌≡◌, ◌∙◌, ◌++◌, ◌≤◌, arith, 
 use Rattle.std.specs.Prelude.{IsTrue, MatchBool, encode_utf8_all, map, option_to_list}
 use Rattle.std.specs.List.{AllZip, flat_map}
 use Rattle.std.specs.FinMap.{get}
-use Rattle.std.proofs.lemmas.Bool.{cases_lt}
+use Rattle.std.proofs.lemmas.Bool.{cases_lt, le-ltb, lt-ltb}
 use Rattle.std.proofs.lemmas.List.{append-nil}
 use Rattle.members_dm.specs.Membership.{IsIn, NoRepeats}
 use Rattle.members_dm.specs.Places.{IsListing}
@@ -28,7 +28,7 @@ use Rattle.ddl_dm.specs.declared.ddl.DdlError.TheVariants as ddl
 use Rattle.ddl_dm.proofs.OneAnswer.{IsRightSchema, IsSchemaAnswered}
 use Rattle.ddl_dm.proofs.SomeAnswer.{schema_some}
 use Rattle.table_csv.specs.Cells.{AreRowsOf, Row}
-use Rattle.table_csv.specs.Databases.{Data, IsDatabase}
+use Rattle.table_csv.specs.Databases.{Data, IsDatabase, rows_at}
 use Rattle.table_csv.specs.TableFiles.{IsFirstFault, records_of}
 use Rattle.table_csv.specs.declared.fault.TableError.{TableError}
 use Rattle.table_csv.specs.declared.fault.TableError.TheVariants as table
@@ -46,27 +46,38 @@ use Rattle.graphs_dm.specs.declared.graph_name.GraphName.TheVariants as graph
 use Rattle.graphs_dm.proofs.GraphLevels.{some_text}
 use Rattle.outside_dm.specs.Storing.{Batch}
 use Rattle.table_csv.proofs.OneText.{text_some}
+use Rattle.append_dm.specs.Appended.{IsBatchFor, appended}
 use Rattle.clean_dm.specs.Removing.{IsLeft}
 use Rattle.clean_dm.proofs.RowsLeft.{rows_some}
 use Rattle.clean_dm.proofs.SomeCleaning.{cleaning_some}
+use Rattle.algebra_dm.specs.declared.error.QueryError.{QueryError}
+use Rattle.algebra_dm.specs.declared.error.QueryError.TheVariants as query
+use Rattle.algebra_dm.specs.declared.query.Query.{Query}
+use Rattle.query_text_dm.specs.Answer.{IsAnswer as IsReadAs}
+use Rattle.query_lines_dm.proofs.SomeLines.{query_lines_some}
+use Rattle.query_lines_dm.proofs.SomeQuery.{query_some}
+use Rattle.cmd_dm.specs.Append.{append_script, batch_keys_step, batch_script, few_step, further_rows_step, further_tables_step, more_step, on_batch_violations}
 use Rattle.cmd_dm.specs.Clean.{clean_script, clean_work}
 use Rattle.cmd_dm.specs.Folder.{AreFilesOf, schema_file, shape_of, table_file}
 use Rattle.cmd_dm.specs.GraphScript.{graph_script}
 use Rattle.cmd_dm.specs.Invert.{files_work, invert_script}
 use Rattle.cmd_dm.proofs.Inverses.{inverse_answer_some}
 use Rattle.cmd_dm.specs.Plans.{IsOutcome}
-use Rattle.cmd_dm.specs.Questions.{IsSchemaAnswer, IsRowsAnswer, IsTriplesAnswer, graph_of, verdict_of, violations_of, files_of, left_of, removals_of}
-use Rattle.cmd_dm.specs.Reasons.{bad_base, cause_code, key_reason, reason}
+use Rattle.cmd_dm.specs.Questions.{IsSchemaAnswer, IsRowsAnswer, IsTriplesAnswer, IsQueryAnswer, batch_of, lines_of, graph_of, verdict_of, violations_of, files_of, left_of, removals_of}
+use Rattle.cmd_dm.specs.Reasons.{bad_base, batch_reason, cause_code, key_reason, reason}
 use Rattle.cmd_dm.specs.Script.{Script, Outcome, usage, refused, absent, too_long, done, text_work, AfterLoad, Comes, ask, refuse, write}
-use Rattle.cmd_dm.specs.Steps.{base_step, database_step, folder_step, graph_step, inverse_step, kept_step, keys_step, on_answer, on_violations, rows_step, schema_step, tables_step, triples_step}
+use Rattle.cmd_dm.specs.Steps.{base_step, database_step, folder_step, graph_step, inverse_step, kept_step, keys_step, on_answer, on_violations, query_step, query_text_step, rows_step, schema_step, tables_step, triples_step}
 use Rattle.cmd_dm.specs.Check.{check_text}
 use Rattle.cmd_dm.specs.Consistent.{consistent_script, verdict_text}
+use Rattle.cmd_dm.specs.Rows.{rows_script}
 use Rattle.cmd_dm.specs.Show.{show_script}
 use Rattle.cmd_dm.specs.declared.command.Command.{Command}
+use Rattle.cmd_dm.proofs.Batches.{batch_text_some}
+use Rattle.cmd_dm.proofs.Further.{FewBehind, few_alone, few_cons, in_all}
 use Rattle.cmd_dm.proofs.Subjects.{document_subjects}
-use Rattle.cmd_dm.specs.declared.command.Command.TheVariants.{Direct, Map, MapKeys, Check, Show, Consistent, Clean, Invert}
+use Rattle.cmd_dm.specs.declared.command.Command.TheVariants.{Direct, Map, MapKeys, Check, Show, Consistent, Clean, Append, Invert, Rows}
 use Rattle.cmd_dm.specs.declared.status.File.{File}
-use Rattle.cmd_dm.specs.declared.status.File.TheVariants.{Schema, Table as TableFile, Graph}
+use Rattle.cmd_dm.specs.declared.status.File.TheVariants.{Schema, Table as TableFile, Graph, Query as QueryFile, More}
 use Rattle.cmd_dm.specs.declared.status.Reason.{Reason}
 use Rattle.cmd_dm.specs.declared.steps.LoadedFolder.{LoadedFolder}
 
@@ -104,6 +115,24 @@ rows_answer_some columns mode number bytes distinct none =
     file_some columns mode (fields_differ columns distinct) (records_of bytes) (λ rows is. none (Ok rows) is) (λ error other h.
     let why = rows_fault_some columns mode number bytes error other h in
     none (Err why.0) why.1)
+
+query_fault_some : (tables : List Table) (bytes : List ℕ) (error : QueryError) → ¬ (◌≡◌ {A = Result Query QueryError} (Err error) (Err query.Memory)) → IsReadAs tables bytes (Err error) → (why : Reason) × IsQueryAnswer tables bytes (Err why)
+query_fault_some tables bytes (query.BadQuery place) other h = (reason 34 0 place 0, (query.BadQuery place, h, refl))
+query_fault_some tables bytes (query.TooDeep place) other h = (reason 40 0 place 0, (query.TooDeep place, h, refl))
+query_fault_some tables bytes query.NoSuchTable other h = (reason 35 0 0 0, (query.NoSuchTable, h, refl))
+query_fault_some tables bytes query.NoSuchColumn other h = (reason 36 0 0 0, (query.NoSuchColumn, h, refl))
+query_fault_some tables bytes query.NameTaken other h = (reason 37 0 0 0, (query.NameTaken, h, refl))
+query_fault_some tables bytes query.NotSameColumns other h = (reason 38 0 0 0, (query.NotSameColumns, h, refl))
+query_fault_some tables bytes query.EmptyProject other h = (reason 39 0 0 0, (query.EmptyProject, h, refl))
+query_fault_some tables bytes query.TooWide other h = (reason 45 0 0 0, (query.TooWide, h, refl))
+query_fault_some tables bytes query.Memory other h = absurd (other refl)
+
+query_answer_some : (tables : List Table) (bytes : List ℕ) → ¬ ((answer : Result Query Reason) → ¬ IsQueryAnswer tables bytes answer)
+query_answer_some tables bytes none = query_some tables bytes by_answer
+  where
+    by_answer : (answer : Result Query QueryError) → ¬ (answer ≡ Err query.Memory) → ¬ IsReadAs tables bytes answer
+    by_answer (Ok q) other right = none (Ok q) right
+    by_answer (Err error) other right = let why = query_fault_some tables bytes error other right in none (Err why.0) why.1
 
 -- what stands behind the lines that were read is read too, or its first fault is an answer
 lines_some : (bytes : List ℕ) (front rest : List (List ℕ)) (triples : List Statement) → lines bytes ≡ front ++ rest → AreTriples front triples → length triples ≤ limit
@@ -297,6 +326,81 @@ invert_some files base name out =
         inverse_answer_some base good triples out (λ answer right. on_inverse store some answer (λ o comes. none o (answer, ((good, right), comes))))
     on_triples good store some (Err why) none = none (refused why) refl
 
+query_rows_some : (files : Files) (folder name : List ℕ) (nulls : NullMode) → SomeComes files (rows_script folder name nulls)
+unfolding query_step query_text_step
+query_rows_some files folder name nulls =
+    let told : Data → Query → Script = λ D q. ask (lines_of D q) (λ text. write (text_work text)) in
+    database_some files folder nulls (λ D. query_step D.tables name (told D)) (λ D database.
+    some_loaded QueryFile (get files (encode_utf8_all name)) (λ bytes o. Comes files (query_text_step D.tables bytes (told D)) o)
+    (λ bytes none. query_answer_some D.tables bytes (λ answer right. on_query D answer (λ o comes. none o (answer, (right, comes))))))
+  where
+    on_query : (D : Data) (answer : Result Query Reason) → SomeComes files (on_answer answer (λ q. ask (lines_of D q) (λ text. write (text_work text))))
+    on_query D (Ok q) none = query_lines_some D q (λ text lines. none (done (text_work text)) (text, (lines, refl)))
+    on_query D (Err why) none = none (refused why) refl
+
+-- ---- batches
+
+few_some : (files : Files) (number count : ℕ) (next : Unit {0} → Script) → (count ≤ 4194304 → SomeComes files (next tt)) → SomeComes files (few_step number count next)
+unfolding few_step
+few_some files number count next some none =
+    let over : Script = refuse (reason 25 number 0 0) in
+    ⊎_elim
+    (λ above. none (refused (reason 25 number 0 0)) (subst (λ (b : Bool). Comes files (cond b over (next tt)) (refused (reason 25 number 0 0))) (sym (lt-ltb 4194304 count above)) refl))
+    (λ within. some within (λ o comes. none o (subst (λ (b : Bool). Comes files (cond b over (next tt)) o) (sym (le-ltb 4194304 count within)) comes)))
+    (cases_lt 4194304 count)
+
+further_some : (files : Files) (folder : List ℕ) (mode : NullMode) (many : ℕ) (held : List (List Row)) (before : ℕ) (tables : List Table) (next : List (List Row) → Script)
+    → ((t : ℕ) → length (rows_at held t) ≤ 4194304) → ((t : Table) → IsIn t tables → NoRepeats (column_names t.columns))
+    → ((rows : List (List Row)) → Fit tables rows → FewBehind held before rows → SomeComes files (next rows)) → SomeComes files (further_tables_step folder mode many held before tables next)
+unfolding further_tables_step further_rows_step rows_step
+further_some files folder mode many held before [] next alone distinct some none = some [] tt (λ t. let few = alone (before + t) in omega (arith, few)) none
+further_some files folder mode many held before (t ∷ tables) next alone distinct some none =
+    let differ : NoRepeats (column_names t.columns) = distinct t (inl refl) in
+    let step : List Row → Script = λ rows. further_tables_step folder mode many held (before + 1) tables (λ others. next (rows ∷ others)) in
+    let further : (rows : List Row) → AreRowsOf t.columns rows → length (rows_at held before) + length rows ≤ 4194304 → SomeComes files (step rows) =
+    λ rows fit few. further_some files folder mode many held (before + 1) tables (λ others. next (rows ∷ others)) alone (λ u m. distinct u (inr m))
+    (λ others fits fews. some (rows ∷ others) (fit, fits) (few_cons held before rows others few fews)) in
+    some_loaded (More (before + 1)) (get files (table_file folder t.name))
+    (λ bytes o. Comes files (further_rows_step t.columns mode (before + 1 + many) (length (rows_at held before)) bytes step) o)
+    (λ bytes none. rows_answer_some t.columns mode (before + 1 + many) bytes differ (λ answer right. on_rows bytes differ step further answer right (λ o comes. none o (answer, ((differ, right), comes))))) none
+  where
+    on_rows : (bytes : List ℕ) → NoRepeats (column_names t.columns) → (step : List Row → Script)
+        → ((rows : List Row) → AreRowsOf t.columns rows → length (rows_at held before) + length rows ≤ 4194304 → SomeComes files (step rows))
+        → (answer : Result (List Row) Reason) → IsRowsAnswer t.columns mode (before + 1 + many) bytes answer
+        → SomeComes files (on_answer answer (λ rows. few_step (before + 1 + many) (length (rows_at held before) + length rows) (λ _. step rows)))
+    on_rows bytes differ step further (Ok rows) right none =
+        let fit = read_rows_fit t.columns mode (records_of bytes) rows (fields_differ t.columns differ) right in
+        few_some files (before + 1 + many) (length (rows_at held before) + length rows) (λ _. step rows) (further rows fit) none
+    on_rows bytes differ step further (Err why) right none = none (refused why) refl
+
+more_some : (files : Files) (folder : List ℕ) (mode : NullMode) (D : Data) (next : Data → Script) → IsDatabase D
+    → ((batch : Data) → IsDatabase batch → IsBatchFor D batch → SomeComes files (next batch)) → SomeComes files (more_step folder mode D next)
+unfolding more_step
+more_some files folder mode D next database some =
+    further_some files folder mode (length D.tables) D.rows 0 D.tables (λ rows. next (record { tables = D.tables; rows = rows })) (λ t. let few = few_alone D database t in omega (arith, few))
+    (λ t m. (database.schema.each t m).distinct)
+    (λ rows fit fews. some (record { tables = D.tables; rows = rows }) (record { schema = database.schema; rows = fit }) (record { tables = refl; few = in_all D.rows rows fews }))
+
+batch_keys_some : (files : Files) (whole : Data) (next : Unit {0} → Script) → (KeepsKeys whole → SomeComes files (next tt)) → SomeComes files (batch_keys_step whole next)
+unfolding batch_keys_step
+batch_keys_some files whole next some none = violations_some whole (λ found listed. on_found found listed (λ o comes. none o (found, (listed, comes))))
+  where
+    on_found : (found : List Violation) → IsListing (ViolatesAt whole) found → SomeComes files (on_batch_violations found next)
+    on_found [] listed none = some ((none_listed whole [] listed).0 refl) none
+    on_found (violation ∷ others) listed none = none (refused (batch_reason violation)) refl
+
+append_some : (files : Files) (base folder more : List ℕ) (nulls : NullMode) → SomeComes files (append_script base folder more nulls)
+append_some files base folder more nulls =
+    let last : List ℕ → Data → Data → Script = λ base D batch. batch_script base D batch in
+    base_some_good files base (λ base. database_step folder nulls (λ D. more_step more nulls D (last base D))) (λ good.
+    database_some files folder nulls (λ D. more_step more nulls D (last base D)) (λ D database.
+    more_some files more nulls D (last base D) database (λ batch batch_is fits.
+    let put : Script = ask (batch_of base D batch) (λ text. write (text_work text)) in
+    keys_some files D (λ _. batch_keys_step (appended D batch) (λ _. put)) (λ kept.
+    batch_keys_some files (appended D batch) (λ _. put) (λ whole_kept none.
+    let text = batch_text_some base good D batch database batch_is fits kept whole_kept in
+    none (done (text_work text.0)) (text.0, (text.1, refl)))))))
+
 -- something comes of words
 pub words_some : (files : Files) (command : Option Command) → ¬ ((outcome : Outcome) → ¬ IsOutcome files command outcome)
 words_some files None none = none usage refl
@@ -304,7 +408,9 @@ words_some files (Some (Direct base folder nulls)) none = graph_some files graph
 words_some files (Some (Map base folder nulls)) none = graph_some files graph.Map base folder nulls none
 words_some files (Some (MapKeys base folder nulls)) none = graph_some files graph.MapKeys base folder nulls none
 words_some files (Some (Clean folder out nulls)) none = clean_some files folder out nulls none
+words_some files (Some (Append base folder more nulls)) none = append_some files base folder more nulls none
 words_some files (Some (Invert base name out)) none = invert_some files base name out none
+words_some files (Some (Rows folder name nulls)) none = query_rows_some files folder name nulls none
 words_some files (Some (Show name)) none = show_some files name none
 words_some files (Some (Consistent name)) none = consistent_some files name none
 words_some files (Some (Check folder nulls)) none =

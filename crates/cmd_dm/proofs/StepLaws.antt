@@ -14,6 +14,10 @@ use Rattle.ddl_dm.specs.declared.ddl.DdlError.{DdlError}
 use Rattle.ddl_dm.specs.declared.ddl.DdlError.TheVariants as ddl
 use Rattle.names_dm.specs.Namespaces.{is_base}
 use Rattle.names_dm.specs.Statements.{Statement}
+use Rattle.algebra_dm.specs.declared.error.QueryError.{QueryError}
+use Rattle.algebra_dm.specs.declared.error.QueryError.TheVariants as query
+use Rattle.algebra_dm.specs.declared.query.Query.{Query}
+use Rattle.query_text_dm.specs.Answer.{IsAnswer as IsReadAs}
 use Rattle.inverse_dm.specs.Answers.{Refuses}
 use Rattle.inverse_dm.specs.declared.error.InverseError.{InverseError}
 use Rattle.inverse_dm.specs.declared.error.InverseError.TheVariants as inverse
@@ -30,10 +34,10 @@ use Rattle.table_csv.specs.declared.fault.TableError.TheVariants as table
 use Rattle.table_csv.proofs.Zips.{zipped_behind}
 use Rattle.cmd_dm.specs.Ending.{Target, Ends, Leads}
 use Rattle.cmd_dm.specs.Folder.{table_file}
-use Rattle.cmd_dm.specs.Questions.{AreInverse, inverse_of, schema_of, rows_of, triples_of}
-use Rattle.cmd_dm.specs.Reasons.{cause_code, ddl_status, graph_status, inverse_status, reason, table_status}
+use Rattle.cmd_dm.specs.Questions.{AreInverse, inverse_of, query_of, schema_of, rows_of, triples_of}
+use Rattle.cmd_dm.specs.Reasons.{cause_code, ddl_status, graph_status, inverse_status, query_status, reason, table_status}
 use Rattle.cmd_dm.specs.Script.{Script, load}
-use Rattle.cmd_dm.specs.Steps.{inverse_step, on_answer, rows_step, schema_step, tables_step, triples_step}
+use Rattle.cmd_dm.specs.Steps.{inverse_step, on_answer, query_text_step, rows_step, schema_step, tables_step, triples_step}
 use Rattle.cmd_dm.proofs.Endings.{ends_after, ends_memory, ends_refused, leads_ask, leads_refl}
 use Rattle.cmd_dm.specs.declared.status.File.TheVariants as file
 use Rattle.cmd_dm.specs.declared.status.Reason.{Reason}
@@ -105,6 +109,31 @@ triples_end bytes (graph.BadLine line) h state target next out = triples_refuse 
 triples_end bytes graph.TooManyTriples h state target next out = triples_refuse bytes graph.TooManyTriples (reason 29 0 0 0) h refl state target next out
 triples_end bytes graph.Memory h state target next out = ends_memory target (triples_step bytes next) state out
 
+-- ---- queries
+
+module _ (tables : List Table) (bytes : List ℕ) where
+  pub query_reads : (q : Query) → IsReadAs tables bytes (Ok q) → (state : ShelfState) (next : Query → Script) → Leads (query_text_step tables bytes next) state (next q) state
+  unfolding query_text_step
+  query_reads q is state next = leads_ask (query_of tables bytes) (Ok q) (λ answer. on_answer answer next) state is
+
+  query_refuses : (error : QueryError) (why : Reason) → IsReadAs tables bytes (Err error) → query_status error ≡ Refused why → (state : ShelfState) (target : Target) (next : Query → Script) (out : SinkState) →
+      Ends target (query_text_step tables bytes next) state state out out (Refused why)
+  unfolding query_text_step
+  query_refuses error why fault told state target next out =
+      ends_after (leads_ask (query_of tables bytes) (Err why) (λ answer. on_answer answer next) state (error, fault, told)) (ends_refused target why state out)
+
+  pub query_ends : (error : QueryError) → IsReadAs tables bytes (Err error) → (state : ShelfState) (target : Target) (next : Query → Script) (out : SinkState) →
+      Ends target (query_text_step tables bytes next) state state out out (query_status error)
+  query_ends (query.BadQuery place) h state target next out = query_refuses (query.BadQuery place) (reason 34 0 place 0) h refl state target next out
+  query_ends (query.TooDeep place) h state target next out = query_refuses (query.TooDeep place) (reason 40 0 place 0) h refl state target next out
+  query_ends query.NoSuchTable h state target next out = query_refuses query.NoSuchTable (reason 35 0 0 0) h refl state target next out
+  query_ends query.NoSuchColumn h state target next out = query_refuses query.NoSuchColumn (reason 36 0 0 0) h refl state target next out
+  query_ends query.NameTaken h state target next out = query_refuses query.NameTaken (reason 37 0 0 0) h refl state target next out
+  query_ends query.NotSameColumns h state target next out = query_refuses query.NotSameColumns (reason 38 0 0 0) h refl state target next out
+  query_ends query.EmptyProject h state target next out = query_refuses query.EmptyProject (reason 39 0 0 0) h refl state target next out
+  query_ends query.TooWide h state target next out = query_refuses query.TooWide (reason 45 0 0 0) h refl state target next out
+  query_ends query.Memory h state target next out = ends_memory target (query_text_step tables bytes next) state out
+
 -- ---- inverses
 
 -- memory ran out, or the triples are refused
@@ -147,7 +176,7 @@ module _ (base : List ℕ) (good : IsTrue (is_base base)) (triples : List Statem
 -- ---- tables
 
 -- what is left of a list from an item on
-drop_from : {X : Type 0} (xs : List X) (i : ℕ) (x : X) → slice_get xs i ≡ Some x → drop i xs ≡ x ∷ drop (suc i) xs
+pub drop_from : {X : Type 0} (xs : List X) (i : ℕ) (x : X) → slice_get xs i ≡ Some x → drop i xs ≡ x ∷ drop (suc i) xs
 drop_from [] i x at = cc at
 drop_from (y ∷ ys) zero x at = cc at
 drop_from (y ∷ ys) (suc i) x at = drop_from ys i x at

@@ -1,5 +1,5 @@
 -- What the program promises of its commands, for files that are well-formed.
-use Rattle.std.specs.Prelude.{◌≡◌, ◌⊎◌, ℕ, ◌≤◌, List, [], ◌∷◌, length, map, Some, IsTrue, encode_utf8_all, ◌↔◌}
+use Rattle.std.specs.Prelude.{◌≡◌, ◌≢◌, ◌⊎◌, ℕ, ◌≤◌, List, [], ◌∷◌, length, map, Some, Err, IsTrue, encode_utf8_all, ◌↔◌}
 use Rattle.std.specs.Io.KnownBytes.{Appends}
 use Rattle.std.specs.FinMap.{get}
 use Rattle.std.specs.List.{flat_map}
@@ -24,6 +24,8 @@ use Rattle.inverse_dm.specs.Parts.{shape_of as shapes_of}
 use Rattle.inverse_dm.specs.declared.error.InverseError.{InverseError}
 use Rattle.keys_dm.specs.Violations.{KeepsKeys, ViolatesAt}
 use Rattle.keys_dm.specs.declared.violation.Violation.{Violation}
+use Rattle.append_dm.specs.Appended.{IsBatchFor, appended}
+use Rattle.append_dm.specs.Batches.{Enlarges, IsBatchText}
 use Rattle.clean_dm.specs.Kept.{AreRowsOfPart, with_rows}
 use Rattle.clean_dm.specs.Parts.{IsLargestPart}
 use Rattle.clean_dm.specs.Removing.{IsCleaning, IsLeft}
@@ -33,6 +35,12 @@ use Rattle.ntriples_reader_dm.specs.Document.{IsDocument, limit}
 use Rattle.consistency_dm.specs.Conflicts.{IsVerdict}
 use Rattle.consistency_dm.specs.declared.verdict.Verdict.{Verdict}
 use Rattle.consistency_dm.specs.declared.verdict.Verdict.TheVariants.{Yes}
+use Rattle.algebra_dm.specs.Nodes.{IsFaultless}
+use Rattle.algebra_dm.specs.declared.error.QueryError.{QueryError}
+use Rattle.algebra_dm.specs.declared.error.QueryError.TheVariants as query
+use Rattle.algebra_dm.specs.declared.query.Query.{Query}
+use Rattle.query_text_dm.specs.Answer.{IsAnswer, IsTextOfQuery}
+use Rattle.query_lines_dm.specs.Lines.{AreQueryLines}
 use Rattle.graphs_dm.specs.Graphs.{AreTriplesOf, IsGraphText}
 use Rattle.graphs_dm.specs.Interpreted.{IsInterpretedWhereKept}
 use Rattle.graphs_dm.specs.declared.graph_name.GraphName.{GraphName}
@@ -42,10 +50,10 @@ use Rattle.cmd_dm.specs.Consistent.{verdict_text}
 use Rattle.cmd_dm.specs.Ending.{NoFault, Wrote}
 use Rattle.cmd_dm.specs.Folder.{schema_file, table_file, AreFilesOf, AreFolderFiles, shape_of}
 use Rattle.cmd_dm.specs.Clean.{clean_work}
-use Rattle.cmd_dm.specs.Reasons.{inverse_status, key_reason}
+use Rattle.cmd_dm.specs.Reasons.{batch_reason, inverse_status, key_reason, query_status}
 use Rattle.cmd_dm.specs.Script.{Work}
 use Rattle.cmd_dm.specs.declared.command.Command.{Command}
-use Rattle.cmd_dm.specs.declared.command.Command.TheVariants.{Direct, Map, MapKeys, Check, Show, Consistent, Clean, Invert}
+use Rattle.cmd_dm.specs.declared.command.Command.TheVariants.{Direct, Map, MapKeys, Check, Show, Consistent, Clean, Append, Invert, Rows}
 use Rattle.cmd_dm.specs.declared.status.Status.{Status}
 use Rattle.cmd_dm.specs.declared.status.Status.TheVariants.{Ok as Done, Refused, Memory}
 
@@ -127,6 +135,16 @@ pub record Cleans (out schema : List ℕ) (D : Data) (old new : ShelfState) (bef
   pub no_fault : EndsSo Done old new before after status
   pub written : status ≡ Done → (work : Work) × (IsCleanWork out schema D work × Wrote work old new before after)
 
+-- `append`: where both the database and the database with the batch behind its rows keep their keys, the text of the new triples is
+-- written, which are those of the batch's rows and complete the old map graph to the new one. Else without a fault the run is
+-- refused for the violation that stands first in the database, or in both together where the database alone has none
+pub record WritesBatch (base : List ℕ) (D batch : Data) (old new : ShelfState) (before after : SinkState) (status : Status) : Type 0 where
+  pub kept : KeepsKeys D → KeepsKeys (appended D batch) → WritesText (IsBatchText base D (appended D batch)) old new before after status
+  pub enlarges : KeepsKeys D → KeepsKeys (appended D batch) → Enlarges base D (appended D batch)
+  pub violated : (first : Violation) (others : List Violation) → IsListing (ViolatesAt D) (first ∷ others) → EndsSo (Refused (key_reason first)) old new before after status
+  pub batch_violated : KeepsKeys D → (first : Violation) (others : List Violation) → IsListing (ViolatesAt (appended D batch)) (first ∷ others)
+      → EndsSo (Refused (batch_reason first)) old new before after status
+
 -- the entries are read, in the mode Plain, as the rows of the tables, each table's in some order
 abbrev pub AreReadBack : List PlainTable → Batch → Type 0
 AreReadBack [] [] = Unit {0}
@@ -159,6 +177,12 @@ pub record GivesBack (base out : List ℕ) (D : Data) (old new : ShelfState) (be
   pub some : (plain : List PlainTable) × IsPlain D plain
   pub stores : (plain : List PlainTable) → IsPlain D plain → StoresTables out plain old new before after status
 
+-- `rows`: where the bytes are the text of a query that has no fault over the tables, the lines of its tuples are written; else the
+-- run is refused for the first fault
+pub record AnswersQuery (D : Data) (bytes : List ℕ) (old new : ShelfState) (before after : SinkState) (status : Status) : Type 0 where
+  pub answered : (q : Query) → IsTextOfQuery bytes q → IsFaultless D.tables q → WritesText (AreQueryLines D q) old new before after status
+  pub refused : (error : QueryError) → error ≢ query.Memory → IsAnswer D.tables bytes (Err error) → EndsSo (query_status error) old new before after status
+
 -- `show`: the lines of the triples in their written form, in their order, are written
 abbrev pub Shows : List Statement → ShelfState → ShelfState → SinkState → SinkState → Status → Type 0
 Shows triples old new before after status = WritesText (λ text. text ≡ flat_map triple_text triples) old new before after status
@@ -185,10 +209,16 @@ Promises (Check folder nulls) old new before after status =
     (files : Files) (D : Data) → old.files ≡ Some files → HoldsDatabase files folder nulls D → Checks D old new before after status
 Promises (Clean folder out nulls) old new before after status =
     (files : Files) (D : Data) → old.files ≡ Some files → (held : HoldsDatabase files folder nulls D) → Cleans out held.bytes D old new before after status
+Promises (Append base folder more nulls) old new before after status =
+    (files : Files) (D batch : Data) → old.files ≡ Some files → IsTrue (is_base base) → HoldsDatabase files folder nulls D → IsBatchFor D batch → HoldsTables files more nulls D.tables batch.rows
+    → WritesBatch base D batch old new before after status
 Promises (Invert base name out) old new before after status =
     (files : Files) (bytes : List ℕ) (triples : List Statement) → old.files ≡ Some files → IsTrue (is_base base) → HoldsFile files (encode_utf8_all name) bytes → IsDocument bytes triples → length triples ≤ limit
     → Inverts base out triples old new before after status
     × ((D : Data) → IsText base → IsDatabase D → IsGraphFile base D bytes → GivesBack base out D old new before after status)
+Promises (Rows folder name nulls) old new before after status =
+    (files : Files) (D : Data) (bytes : List ℕ) → old.files ≡ Some files → HoldsDatabase files folder nulls D → HoldsFile files (encode_utf8_all name) bytes
+    → AnswersQuery D bytes old new before after status
 Promises (Show name) old new before after status =
     (files : Files) (bytes : List ℕ) (triples : List Statement) → old.files ≡ Some files → HoldsFile files (encode_utf8_all name) bytes → IsDocument bytes triples → length triples ≤ limit
     → Shows triples old new before after status

@@ -11,6 +11,8 @@ pub mod Folder
 pub mod GraphScript
 pub mod Check
 pub mod Clean
+pub mod Append
+pub mod Rows
 pub mod Show
 pub mod Consistent
 pub mod Plans

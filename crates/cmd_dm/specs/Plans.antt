@@ -2,6 +2,7 @@
 use Rattle.std.specs.Prelude.{◌≡◌, ℕ, List, Option, Some, None, IfSome, encode_utf8_all}
 use Rattle.outside_dm.specs.Shelves.{Files}
 use Rattle.graphs_dm.specs.declared.graph_name.GraphName.TheVariants as graph
+use Rattle.cmd_dm.specs.Append.{append_script}
 use Rattle.cmd_dm.specs.Check.{check_script}
 use Rattle.cmd_dm.specs.Consistent.{consistent_script}
 use Rattle.cmd_dm.specs.Clean.{clean_script}
@@ -9,12 +10,13 @@ use Rattle.cmd_dm.specs.GraphScript.{graph_script}
 use Rattle.cmd_dm.specs.Folder.{schema_file}
 use Rattle.cmd_dm.specs.Ending.{Target, to_both, to_output, to_shelf}
 use Rattle.cmd_dm.specs.Invert.{invert_script}
+use Rattle.cmd_dm.specs.Rows.{rows_script}
 use Rattle.cmd_dm.specs.Show.{show_script}
 use Rattle.cmd_dm.specs.Script.{Script, Outcome, usage, Comes}
 use Rattle.cmd_dm.specs.declared.status.File.{File}
-use Rattle.cmd_dm.specs.declared.status.File.TheVariants.{Schema, Graph}
+use Rattle.cmd_dm.specs.declared.status.File.TheVariants.{Schema, Query, Graph}
 use Rattle.cmd_dm.specs.declared.command.Command.{Command}
-use Rattle.cmd_dm.specs.declared.command.Command.TheVariants.{Direct, Map, MapKeys, Check, Show, Consistent, Clean, Invert}
+use Rattle.cmd_dm.specs.declared.command.Command.TheVariants.{Direct, Map, MapKeys, Check, Show, Consistent, Clean, Append, Invert, Rows}
 
 pub record Plan : Type 0 where
   pub target : Target
@@ -26,7 +28,9 @@ plan_of (Map base folder nulls) = record { target = to_output; script = graph_sc
 plan_of (MapKeys base folder nulls) = record { target = to_output; script = graph_script graph.MapKeys base folder nulls }
 plan_of (Check folder nulls) = record { target = to_output; script = check_script folder nulls }
 plan_of (Clean folder out nulls) = record { target = to_both; script = clean_script folder out nulls }
+plan_of (Append base folder more nulls) = record { target = to_output; script = append_script base folder more nulls }
 plan_of (Invert base name out) = record { target = to_shelf; script = invert_script base name out }
+plan_of (Rows folder name nulls) = record { target = to_output; script = rows_script folder name nulls }
 plan_of (Show name) = record { target = to_output; script = show_script name }
 plan_of (Consistent name) = record { target = to_output; script = consistent_script name }
 
@@ -40,6 +44,12 @@ abbrev pub graph_file : List ℕ → File → Option (List ℕ)
 graph_file name Graph = Some (encode_utf8_all name)
 graph_file name _ = None
 
+-- the schema's file or the query's, where it is the file
+abbrev pub rows_file : List ℕ → List ℕ → File → Option (List ℕ)
+rows_file folder name Schema = Some (schema_file folder)
+rows_file folder name Query = Some (encode_utf8_all name)
+rows_file folder name _ = None
+
 -- the names of the files that the words alone name
 abbrev pub file_of : Command → File → Option (List ℕ)
 file_of (Direct base folder nulls) file = folder_file folder file
@@ -47,7 +57,9 @@ file_of (Map base folder nulls) file = folder_file folder file
 file_of (MapKeys base folder nulls) file = folder_file folder file
 file_of (Check folder nulls) file = folder_file folder file
 file_of (Clean folder out nulls) file = folder_file folder file
+file_of (Append base folder more nulls) file = folder_file folder file
 file_of (Invert base name out) file = graph_file name file
+file_of (Rows folder name nulls) file = rows_file folder name file
 file_of (Show name) file = graph_file name file
 file_of (Consistent name) file = graph_file name file
 

@@ -26,13 +26,19 @@ use Rattle.graphs_dm.specs.Graphs.{IsGraphText}
 use Rattle.graphs_dm.specs.declared.graph_name.GraphName.{GraphName}
 use Rattle.outside_dm.specs.Storing.{Batch}
 use Rattle.schema_dm.specs.declared.table.ShapeTable.{ShapeTable}
+use Rattle.append_dm.specs.Appended.{appended}
+use Rattle.append_dm.specs.Batches.{IsBatchText}
 use Rattle.clean_dm.specs.Kept.{AreRowsOfPart}
 use Rattle.clean_dm.specs.Removing.{IsCleaning, IsLeft}
 use Rattle.clean_dm.specs.declared.removal.Removal.{Removal}
 use Rattle.inverse_dm.specs.Answers.{Refuses, StandsWithin}
 use Rattle.inverse_dm.specs.declared.error.InverseError.{InverseError}
+use Rattle.algebra_dm.specs.declared.error.QueryError.{QueryError}
+use Rattle.algebra_dm.specs.declared.query.Query.{Query}
+use Rattle.query_text_dm.specs.Answer.{IsAnswer as IsReadAs}
+use Rattle.query_lines_dm.specs.Lines.{AreQueryLines}
 use Rattle.cmd_dm.specs.Folder.{AreFilesOf, AreFolderFiles}
-use Rattle.cmd_dm.specs.Reasons.{ddl_status, graph_status, inverse_status, table_status}
+use Rattle.cmd_dm.specs.Reasons.{ddl_status, graph_status, inverse_status, query_status, table_status}
 use Rattle.cmd_dm.specs.declared.status.Reason.{Reason}
 use Rattle.cmd_dm.specs.declared.status.Status.TheVariants.{Refused}
 
@@ -49,6 +55,8 @@ pub data Question : Type 0 where
   verdict_of : List Statement → Question
   -- the text of the graph of this name
   graph_of : GraphName → List ℕ → Data → Question
+  -- the text of the triples by which the batch enlarges the map graph of the database
+  batch_of : List ℕ → Data → Data → Question
   -- the removals by which the database is cleaned
   removals_of : Data → Question
   -- the rows that the removals leave, of each table
@@ -57,6 +65,10 @@ pub data Question : Type 0 where
   files_of : List ℕ → List ShapeTable → List (List Row) → Question
   -- the files in the folder of the tables that the triples stand for, where the base is one that IRIs can begin with
   inverse_of : List ℕ → List Statement → List ℕ → Question
+  -- the query of the bytes over these tables
+  query_of : List Table → List ℕ → Question
+  -- the lines of the query's rows
+  lines_of : Data → Query → Question
 
 -- what an answer to the question is: a value, or why the bytes are refused
 abbrev pub AnswerTo : Question → Type 0
@@ -66,10 +78,13 @@ AnswerTo (violations_of D) = List Violation
 AnswerTo (triples_of bytes) = Result (List Statement) Reason
 AnswerTo (verdict_of triples) = Verdict
 AnswerTo (graph_of name base D) = List ℕ
+AnswerTo (batch_of base D batch) = List ℕ
 AnswerTo (removals_of D) = List Removal
 AnswerTo (left_of D removals) = List (List Row)
 AnswerTo (files_of folder tables rows) = Batch
 AnswerTo (inverse_of base triples folder) = Result Batch Reason
+AnswerTo (query_of tables bytes) = Result Query Reason
+AnswerTo (lines_of D q) = List ℕ
 
 abbrev pub IsSchemaAnswer : List ℕ → Result (List Table) Reason → Type 0
 IsSchemaAnswer bytes (Ok tables) = IsDdl bytes tables
@@ -94,6 +109,10 @@ abbrev pub IsInverseAnswer : List ℕ → List Statement → List ℕ → Result
 IsInverseAnswer base triples folder (Ok files) = AreInverse base triples folder files
 IsInverseAnswer base triples folder (Err reason) = (error : InverseError) × Refuses base triples error × (inverse_status error ≡ Refused reason)
 
+abbrev pub IsQueryAnswer : List Table → List ℕ → Result Query Reason → Type 0
+IsQueryAnswer tables bytes (Ok q) = IsReadAs tables bytes (Ok q)
+IsQueryAnswer tables bytes (Err reason) = (error : QueryError) × IsReadAs tables bytes (Err error) × (query_status error ≡ Refused reason)
+
 -- the answer is right
 abbrev pub Answers : (question : Question) → AnswerTo question → Type 0
 Answers (schema_of bytes) answer = IsSchemaAnswer bytes answer
@@ -102,7 +121,10 @@ Answers (violations_of D) found = IsListing (ViolatesAt D) found
 Answers (triples_of bytes) answer = IsTriplesAnswer bytes answer
 Answers (verdict_of triples) verdict = IsVerdict triples verdict
 Answers (graph_of name base D) text = IsGraphText name base D text
+Answers (batch_of base D batch) text = IsBatchText base D (appended D batch) text
 Answers (removals_of D) removals = IsCleaning D removals
 Answers (left_of D removals) rows = AreRowsOfPart D (IsLeft removals) rows
 Answers (files_of folder tables rows) files = AreFilesOf folder tables rows files
 Answers (inverse_of base triples folder) answer = IsTrue (is_base base) × IsInverseAnswer base triples folder answer
+Answers (query_of tables bytes) answer = IsQueryAnswer tables bytes answer
+Answers (lines_of D q) text = AreQueryLines D q text

@@ -9,6 +9,8 @@ use Rattle.ntriples_reader_dm.specs.declared.fault.GraphError.{GraphError}
 use Rattle.ntriples_reader_dm.specs.declared.fault.GraphError.TheVariants as graph
 use Rattle.inverse_dm.specs.declared.error.InverseError.{InverseError}
 use Rattle.inverse_dm.specs.declared.error.InverseError.TheVariants as inverse
+use Rattle.algebra_dm.specs.declared.error.QueryError.{QueryError}
+use Rattle.algebra_dm.specs.declared.error.QueryError.TheVariants as query
 use Rattle.table_csv.specs.declared.fault.TableError.{TableError}
 use Rattle.table_csv.specs.declared.fault.TableError.TheVariants as table
 use Rattle.keys_dm.specs.declared.violation.Violation.{Violation}
@@ -80,6 +82,18 @@ inverse_status inverse.TooManyColumns = Refused (reason 14 0 0 0)
 inverse_status inverse.TooManyRows = Refused (reason 25 0 0 0)
 inverse_status inverse.Memory = Memory
 
+-- the status of a text that is no query over the tables of a schema
+abbrev pub query_status : QueryError → Status
+query_status (query.BadQuery place) = Refused (reason 34 0 place 0)
+query_status (query.TooDeep place) = Refused (reason 40 0 place 0)
+query_status query.NoSuchTable = Refused (reason 35 0 0 0)
+query_status query.NoSuchColumn = Refused (reason 36 0 0 0)
+query_status query.NameTaken = Refused (reason 37 0 0 0)
+query_status query.NotSameColumns = Refused (reason 38 0 0 0)
+query_status query.EmptyProject = Refused (reason 39 0 0 0)
+query_status query.TooWide = Refused (reason 45 0 0 0)
+query_status query.Memory = Memory
+
 abbrev pub kind_reason : ℕ → ℕ → ViolationKind → Reason
 kind_reason table row NullKey = reason 42 table row 0
 kind_reason table row RepeatedKey = reason 42 table row 0
@@ -90,3 +104,13 @@ kind_reason table row (Dangling key) = reason 42 table row key
 -- primary key
 abbrev pub key_reason : Violation → Reason
 key_reason violation = kind_reason violation.table violation.row violation.kind
+
+abbrev pub batch_kind_reason : ℕ → ℕ → ViolationKind → Reason
+batch_kind_reason table row NullKey = reason 50 table row 0
+batch_kind_reason table row RepeatedKey = reason 50 table row 0
+batch_kind_reason table row (RepeatedUnique key) = reason 51 table row key
+batch_kind_reason table row (Dangling key) = reason 50 table row key
+
+-- the same of a key that is violated where a batch stands behind the rows, which are counted in both together
+abbrev pub batch_reason : Violation → Reason
+batch_reason violation = batch_kind_reason violation.table violation.row violation.kind

@@ -7,7 +7,7 @@ use Rattle.value_dm.specs.declared.mode.NullMode.TheVariants.{Plain, EmptyNull}
 use Rattle.graphs_dm.specs.declared.graph_name.GraphName.{GraphName}
 use Rattle.graphs_dm.specs.declared.graph_name.GraphName.TheVariants as graph
 use Rattle.cmd_dm.specs.declared.command.Command.{Command}
-use Rattle.cmd_dm.specs.declared.command.Command.TheVariants.{Direct, Map, MapKeys, Check, Show, Consistent, Clean, Invert}
+use Rattle.cmd_dm.specs.declared.command.Command.TheVariants.{Direct, Map, MapKeys, Check, Show, Consistent, Clean, Append, Invert, Rows}
 
 -- [empty-null]
 abbrev pub nulls_of : List (List ℕ) → Option NullMode
@@ -36,6 +36,11 @@ abbrev pub clean_of : List (List ℕ) → Option Command
 clean_of (folder ∷ out ∷ last) = option_map (λ nulls. Clean (chars folder) (chars out) nulls) (nulls_of last)
 clean_of words = None
 
+-- BASE FOLDER MORE [empty-null]
+abbrev pub append_of : List (List ℕ) → Option Command
+append_of (base ∷ folder ∷ more ∷ last) = option_map (λ nulls. Append (chars base) (chars folder) (chars more) nulls) (nulls_of last)
+append_of words = None
+
 -- GRAPH
 abbrev pub show_of : List (List ℕ) → Option Command
 show_of (name ∷ []) = Some (Show (chars name))
@@ -51,6 +56,11 @@ abbrev pub invert_of : List (List ℕ) → Option Command
 invert_of (base ∷ name ∷ out ∷ []) = Some (Invert (chars base) (chars name) (chars out))
 invert_of words = None
 
+-- FOLDER QUERY [empty-null]
+abbrev pub rows_of : List (List ℕ) → Option Command
+rows_of (folder ∷ query ∷ last) = option_map (λ nulls. Rows (chars folder) (chars query) nulls) (nulls_of last)
+rows_of words = None
+
 -- the command that words stand for: its name, and then exactly its words
 abbrev pub command_of : List (List ℕ) → Option Command
 command_of [] = None
@@ -60,6 +70,8 @@ command_of (name ∷ words) =
     if bytes_eq name (codes "map-keys") then graph_words graph.MapKeys words else
     if bytes_eq name (codes "check") then check_of words else
     if bytes_eq name (codes "clean") then clean_of words else
+    if bytes_eq name (codes "append") then append_of words else
     if bytes_eq name (codes "invert") then invert_of words else
+    if bytes_eq name (codes "rows") then rows_of words else
     if bytes_eq name (codes "show") then show_of words else
     if bytes_eq name (codes "consistent") then consistent_of words else None

@@ -61,6 +61,21 @@ pub enum Command {
         nulls: NullMode,
     },
 
+    /// Writes the triples by which further rows enlarge the map graph of the database in a folder.
+    Append {
+        /// What the graph's IRIs begin with.
+        base: Text,
+
+        /// The folder with `schema.sql` and one CSV file a table.
+        folder: Text,
+
+        /// The folder with one CSV file of further rows a table.
+        more: Text,
+
+        /// `EmptyNull` where the word `empty-null` is given, for the files of both folders.
+        nulls: NullMode,
+    },
+
     /// Stores the tables that the triples of a file of N-Triples stand for.
     Invert {
         /// What the graph's IRIs begin with.
@@ -71,6 +86,18 @@ pub enum Command {
 
         /// The folder in which the files are stored.
         out: Text,
+    },
+
+    /// Writes the rows of a query over the database in a folder.
+    Rows {
+        /// The folder with `schema.sql` and one CSV file a table.
+        folder: Text,
+
+        /// The name of the file with the query's text.
+        query: Text,
+
+        /// `EmptyNull` where the word `empty-null` is given.
+        nulls: NullMode,
     },
 
     /// Writes each triple of a file of N-Triples in its written form.

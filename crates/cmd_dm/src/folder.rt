@@ -2,7 +2,7 @@ ghost use Rattle.std.specs.Prelude.{◌≡◌, IfOk, string_bytes};
 ghost use Rattle.cmd_dm.specs.Ending.{Step};
 ghost use Rattle.cmd_dm.specs.Folder.{schema_file, table_file};
 ghost use Rattle.cmd_dm.specs.Script.{load};
-ghost use Rattle.cmd_dm.specs.declared.status.File.TheVariants.{Schema, Table};
+ghost use Rattle.cmd_dm.specs.declared.status.File.TheVariants.{More, Schema, Table};
 
 use crate::status::{File, Status};
 use crate::steps::load_file;
@@ -56,4 +56,18 @@ pub(crate) fn load_table<S: Shelf>(
 {
     let name = table_file(alloc, folder, table)?;
     load_file(alloc, File::Table(number), name.as_str(), shelf)
+}
+
+/// Loads the file with further rows of the table with this number, counted from 1, as the next step.
+pub(crate) fn load_more<S: Shelf>(
+    alloc: Global,
+    folder: &Text,
+    number: u64,
+    table: &Text,
+    shelf: &mut S,
+) -> Result<Bytes, Status>
+    ensures { Step (load (More number) (table_file folder.now table.now)) (S.state shelf.old) (S.state shelf.new) result }
+{
+    let name = table_file(alloc, folder, table)?;
+    load_file(alloc, File::More(number), name.as_str(), shelf)
 }

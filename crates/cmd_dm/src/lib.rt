@@ -1,6 +1,7 @@
 //! The commands of `dbrdf`, from their words to what they write and to the line on how they ended.
 #![tactic(auto)]
 
+mod append;
 mod causes;
 mod check;
 mod clean;
@@ -10,7 +11,9 @@ mod fault_line;
 mod folder;
 mod graphs;
 mod invert;
+mod query;
 mod reasons;
+mod rows;
 mod show;
 mod status;
 mod steps;

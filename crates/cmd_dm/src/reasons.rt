@@ -1,7 +1,8 @@
 ghost use Rattle.std.specs.Prelude.{◌≡◌};
-ghost use Rattle.cmd_dm.specs.Reasons.{cause_code, ddl_status, graph_status, inverse_status, key_reason, table_status};
+ghost use Rattle.cmd_dm.specs.Reasons.{batch_reason, cause_code, ddl_status, graph_status, inverse_status, key_reason, query_status, table_status};
 
 use crate::status::{Reason, Status};
+use algebra_dm::QueryError;
 use ddl_dm::DdlError;
 use inverse_dm::InverseError;
 use keys_dm::{Violation, ViolationKind};
@@ -102,6 +103,23 @@ pub(crate) fn inverse_status(error: InverseError) -> Status
     }
 }
 
+/// The status of a text that is no query over the tables of a schema.
+pub(crate) fn query_status(error: QueryError) -> Status
+    ensures { result ≡ query_status error }
+{
+    match error {
+        QueryError::BadQuery(place) => refused(34, 0, place, 0),
+        QueryError::TooDeep(place) => refused(40, 0, place, 0),
+        QueryError::NoSuchTable => refused(35, 0, 0, 0),
+        QueryError::NoSuchColumn => refused(36, 0, 0, 0),
+        QueryError::NameTaken => refused(37, 0, 0, 0),
+        QueryError::NotSameColumns => refused(38, 0, 0, 0),
+        QueryError::EmptyProject => refused(39, 0, 0, 0),
+        QueryError::TooWide => refused(45, 0, 0, 0),
+        QueryError::Memory => Status::Memory,
+    }
+}
+
 /// The status of a violated key.
 pub(crate) fn key_status(violation: &Violation) -> Status
     ensures { result ≡ Status.Refused (key_reason violation.now) }
@@ -113,5 +131,19 @@ pub(crate) fn key_status(violation: &Violation) -> Status
         ViolationKind::RepeatedKey => refused(42, table, row, 0),
         ViolationKind::RepeatedUnique(key) => refused(46, table, row, key),
         ViolationKind::Dangling(key) => refused(42, table, row, key),
+    }
+}
+
+/// The status of a key that is violated in a database with a batch behind its rows.
+pub(crate) fn batch_status(violation: &Violation) -> Status
+    ensures { result ≡ Status.Refused (batch_reason violation.now) }
+{
+    let table = violation.table;
+    let row = violation.row;
+    match violation.kind {
+        ViolationKind::NullKey => refused(50, table, row, 0),
+        ViolationKind::RepeatedKey => refused(50, table, row, 0),
+        ViolationKind::RepeatedUnique(key) => refused(51, table, row, key),
+        ViolationKind::Dangling(key) => refused(50, table, row, key),
     }
 }

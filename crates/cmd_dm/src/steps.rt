@@ -71,7 +71,7 @@ fn read_schema(alloc: Global, bytes: &Bytes) -> Result<Schema, Status>
 
 /// Reads the rows of the table with this number, counted from 1, as the next step.
 #[tactic(auto, unfolding(crate::specs::Steps::rows_step))]
-fn read_rows(
+pub(crate) fn read_rows(
     alloc: Global,
     table: &Table,
     nulls: NullMode,
@@ -186,7 +186,11 @@ pub(crate) fn load_graph<S: Shelf>(
 
 /// Looks at the database's keys as the next step.
 #[tactic(auto, unfolding(crate::specs::Steps::keys_step))]
-fn check_keys(alloc: Global, database: &Database, indexes: &KeyIndexes) -> Result<(), Status>
+pub(crate) fn check_keys(
+    alloc: Global,
+    database: &Database,
+    indexes: &KeyIndexes,
+) -> Result<(), Status>
     requires { AreIndexesOf database.now indexes.now }
     ensures step { PureStep (keys_step database.now) result }
     ensures kept { IfOk result (λ _. KeepsKeys database.now) }

@@ -8,6 +8,7 @@ ghost use Rattle.cmd_dm.specs.Script.{Outcome, status_of};
 ghost use Rattle.cmd_dm.specs.Words.{command_of};
 ghost use Rattle.cmd_dm.specs.declared.status.File.{File};
 
+use crate::append::run_append;
 use crate::check::run_check;
 use crate::clean::run_clean;
 use crate::command::Command;
@@ -15,6 +16,7 @@ use crate::consistent::run_consistent;
 use crate::fault_line::tell;
 use crate::graphs::run_graph;
 use crate::invert::run_invert;
+use crate::rows::run_rows;
 use crate::show::run_show;
 use crate::status::Status;
 use crate::words::{WordError, read_words};
@@ -54,11 +56,22 @@ fn run_command<S: Shelf, K: Sink>(
             out: stored,
             nulls,
         } => run_clean(alloc, folder, stored, *nulls, shelf, out),
+        Command::Append {
+            base,
+            folder,
+            more,
+            nulls,
+        } => run_append(alloc, base, folder, more, *nulls, shelf, out),
         Command::Invert {
             base,
             graph,
             out: stored,
         } => run_invert(alloc, base, graph, stored, shelf),
+        Command::Rows {
+            folder,
+            query,
+            nulls,
+        } => run_rows(alloc, folder, query, *nulls, shelf, out),
         Command::Show { graph } => run_show(alloc, graph, shelf, out),
         Command::Consistent { graph } => run_consistent(alloc, graph, shelf, out),
     }

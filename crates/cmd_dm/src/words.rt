@@ -1,5 +1,5 @@
 ghost use Rattle.std.specs.Prelude.{◌≡◌, ◌↔◌, Some, None, IfOk, IfErr, IsErrOf, chars, map, string_bytes};
-ghost use Rattle.cmd_dm.specs.Words.{check_of, command_of, consistent_of, graph_command, graph_words, invert_of, nulls_of, show_of, clean_of};
+ghost use Rattle.cmd_dm.specs.Words.{append_of, check_of, command_of, consistent_of, graph_command, graph_words, invert_of, nulls_of, rows_of, show_of, clean_of};
 ghost use Rattle.cmd_dm.specs.declared.words.WordError.TheVariants.{Memory, Usage};
 
 use crate::command::Command;
@@ -127,6 +127,28 @@ fn read_clean(alloc: Global, words: &[String]) -> Result<Command, WordError>
     }
 }
 
+/// The words behind `append`.
+fn read_append(alloc: Global, words: &[String]) -> Result<Command, WordError>
+    ensures ok { IfOk result (λ command. append_of (map string_bytes words.now) ≡ Some command) }
+    ensures usage { IsErrOf result WordError.Usage ↔ (append_of (map string_bytes words.now) ≡ None) }
+{
+    match words {
+        [base, folder, more, last @ ..] => {
+            let nulls = read_nulls(last)?;
+            let base = text_of(alloc, base)?;
+            let folder = text_of(alloc, folder)?;
+            let more = text_of(alloc, more)?;
+            Ok(Command::Append {
+                base,
+                folder,
+                more,
+                nulls,
+            })
+        }
+        _ => Err(WordError::Usage),
+    }
+}
+
 /// The words behind `invert`.
 fn read_invert(alloc: Global, words: &[String]) -> Result<Command, WordError>
     ensures ok { IfOk result (λ command. invert_of (map string_bytes words.now) ≡ Some command) }
@@ -138,6 +160,26 @@ fn read_invert(alloc: Global, words: &[String]) -> Result<Command, WordError>
             let graph = text_of(alloc, graph)?;
             let out = text_of(alloc, out)?;
             Ok(Command::Invert { base, graph, out })
+        }
+        _ => Err(WordError::Usage),
+    }
+}
+
+/// The words behind `rows`.
+fn read_rows_words(alloc: Global, words: &[String]) -> Result<Command, WordError>
+    ensures ok { IfOk result (λ command. rows_of (map string_bytes words.now) ≡ Some command) }
+    ensures usage { IsErrOf result WordError.Usage ↔ (rows_of (map string_bytes words.now) ≡ None) }
+{
+    match words {
+        [folder, query, last @ ..] => {
+            let nulls = read_nulls(last)?;
+            let folder = text_of(alloc, folder)?;
+            let query = text_of(alloc, query)?;
+            Ok(Command::Rows {
+                folder,
+                query,
+                nulls,
+            })
         }
         _ => Err(WordError::Usage),
     }
@@ -188,8 +230,12 @@ pub fn read_words(alloc: Global, words: &[String]) -> Result<Command, WordError>
                 read_check(alloc, rest)
             } else if name.as_str() == "clean" {
                 read_clean(alloc, rest)
+            } else if name.as_str() == "append" {
+                read_append(alloc, rest)
             } else if name.as_str() == "invert" {
                 read_invert(alloc, rest)
+            } else if name.as_str() == "rows" {
+                read_rows_words(alloc, rest)
             } else if name.as_str() == "show" {
                 read_show(alloc, rest)
             } else if name.as_str() == "consistent" {

@@ -1,0 +1,5 @@
+//! Tests of the command `append`, from files to its output.
+#![tactic(auto)]
+
+#[cfg(test)]
+mod tests;
