@@ -84,9 +84,7 @@ fn read_further_tables<S: Shelf>(
         let bytes = load_more(alloc, folder, number, &table.name, shelf)?;
         let told = number + tables.len() as u64;
         let count = rows_of(old, place as u32).len();
-        list.push(read_further_rows(
-            alloc, table, nulls, told, count, &bytes,
-        )?)?;
+        list.push(read_further_rows(alloc, table, nulls, told, count, &bytes)?)?;
     }
     Ok(list)
 }
@@ -149,9 +147,7 @@ fn put_batch<K: Sink>(
     let whole = combined(alloc, old, batch)?;
     let indexes = KeyIndexes::new(alloc, &whole)?;
     check_both(alloc, &whole, &indexes)?;
-    end_of_puts(write_batch_by(
-        alloc, base, old, batch, &whole, &indexes, out,
-    ))
+    end_of_puts(write_batch_by(alloc, base, old, batch, &whole, &indexes, out))
 }
 
 /// `append BASE FOLDER MORE`: writes the triples by which the rows in the folder MORE enlarge the map graph of the folder's
