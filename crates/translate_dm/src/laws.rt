@@ -21,10 +21,12 @@ use names_dm::Base;
 
 /// What the pattern of a query says: over the map graph of a database that keeps its keys, and over the map-keys graph of any
 /// database, its solutions are exactly the mappings that agree with a tuple of the query (SPARQL 1.1 Query Language, section
-/// 18). Over one schema a query has one pattern. The call does nothing; its clauses are the laws.
+/// 18). Over one schema a well-formed query has a pattern, said by double negation, and no query has two. The call does nothing;
+/// its clauses are the laws.
 pub fn queries_are_kept(base: &Base)
     ensures keeps { (mode : Mode) (D : Data) (q : Query) (p : Pattern) → IsDatabase D → KeepsKeysOf mode D → IsWellFormed D.tables q → HasLawfulValues q
         → Translates mode base.now D.tables q p → (m : Mapping) → Solution (IsTripleOf (graph_of mode) base.now D) p m ↔ ((w : Tuple) × IsTuple D q w × Agrees m w) }
+    ensures some { (mode : Mode) (tables : List Table) (q : Query) → IsSchema tables → IsWellFormed tables q → ¬ ((p : Pattern) → ¬ Translates mode base.now tables q p) }
     ensures one { (mode : Mode) (tables : List Table) (q : Query) (p other : Pattern) → IsSchema tables → Translates mode base.now tables q p → Translates mode base.now tables q other → p ≡ other }
 {
     naming_laws(base);
