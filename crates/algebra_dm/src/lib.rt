@@ -12,5 +12,7 @@ mod recall;
 
 pub use columns::{column_names, table_names};
 pub use error::QueryError;
+pub use known::Known;
+pub use name_lists::{lacks_some, rising, shared};
 pub use query::{Mode, Query};
-pub use recall::{attributes, certain, check_query};
+pub use recall::{attributes, certain, check_query, known_of};

@@ -1,8 +1,8 @@
-ghost use Rattle.std.specs.Prelude.{◌≡◌, ◌⊎◌, ℕ, List, All, IfOk, IfErr, OnOk, MatchResult};
-ghost use Rattle.members_dm.specs.Membership.{IsIn};
+ghost use Rattle.std.specs.Prelude.{◌≡◌, ◌⊎◌, ℕ, List, All, IfOk, IfErr, OnOk, MatchResult, map};
+ghost use Rattle.members_dm.specs.Membership.{IsIn, NoRepeats};
 ghost use Rattle.algebra_dm.specs.Attributes.{AreAttributes, Lists};
 ghost use Rattle.algebra_dm.specs.Certain.{IsCertain, IsNeverNull};
-ghost use Rattle.algebra_dm.specs.Checking.{IsAnswer};
+ghost use Rattle.algebra_dm.specs.Checking.{IsAnswer, IsKnown};
 ghost use Rattle.algebra_dm.specs.Nodes.{IsFaultless, IsFirstFault, nodes};
 ghost use Rattle.algebra_dm.specs.declared.error.QueryError.{QueryError as TheError};
 
@@ -10,11 +10,11 @@ use crate::columns::table_names;
 use crate::error::QueryError;
 use crate::known::{Known, examine};
 use crate::query::{Mode, Query};
-use schema_dm::{Index, Schema};
+use schema_dm::{Index, Schema, Table};
 use std::alloc::{AllocError, Global};
-use value_dm::Names;
+use value_dm::{Names, Text};
 
-fn known_of(alloc: Global, mode: Mode, schema: &Schema, query: &Query) -> Result<Known, QueryError>
+fn answer_of(alloc: Global, mode: Mode, schema: &Schema, query: &Query) -> Result<Known, QueryError>
     ensures { IsAnswer mode schema.now query.now result }
 {
     let tables = schema.tables();
@@ -42,20 +42,39 @@ pub fn check_query(alloc: Global, schema: &Schema, query: &Query) -> Result<(), 
     ensures first { (error : TheError) → IsFirstFault schema.now (nodes query.now) error →
         MatchResult result (λ done. ⊥) (λ told. (told ≡ error) ⊎ (told ≡ QueryError.Memory)) }
 {
-    let _known = known_of(alloc, Mode::Map, schema, query)?;
+    let _known = answer_of(alloc, Mode::Map, schema, query)?;
     Ok(())
 }
 
-// What is known of a well-formed query.
-fn recalled(alloc: Global, mode: Mode, schema: &Schema, query: &Query) -> Result<Known, AllocError>
-    requires { IsFaultless schema.now query.now }
-    ensures attributes { IfOk result (λ known. AreAttributes schema.now query.now known.attributes) }
-    ensures certain { IfOk result (λ known. Lists (IsCertain mode schema.now query.now) known.certain) }
+/// The attributes of a faultless query over the tables, and those of them that are certain in the mode, both in the order of
+/// their bytes. The index is that of the tables' names, so that it is made once for many queries. Refused for want of memory
+/// alone.
+pub fn known_of(
+    alloc: Global,
+    mode: Mode,
+    tables: &[Table],
+    names: &Index<Text>,
+    query: &Query,
+) -> Result<Known, AllocError>
+    requires named { names.now ≡ map (λ table. table.name) tables.now }
+    requires once { NoRepeats (map (λ table. table.name) tables.now) }
+    requires faultless { IsFaultless tables.now query.now }
+    ensures { IfOk result (IsKnown mode tables.now query.now) }
 {
-    match known_of(alloc, mode, schema, query) {
+    match examine(alloc, mode, tables, names, query) {
         Ok(known) => Ok(known),
         Err(_) => Err(AllocError),
     }
+}
+
+// What is known of a faultless query.
+fn recalled(alloc: Global, mode: Mode, schema: &Schema, query: &Query) -> Result<Known, AllocError>
+    requires { IsFaultless schema.now query.now }
+    ensures { IfOk result (IsKnown mode schema.now query.now) }
+{
+    let tables = schema.tables();
+    let names = Index::new(alloc, table_names(alloc, tables)?)?;
+    known_of(alloc, mode, tables, &names, query)
 }
 
 /// The attributes of the query's tuples, in the order of their bytes. Refused for want of memory alone.

@@ -32,7 +32,7 @@ use Rattle.keeping_dm.specs.Keeping.{Agrees, Keeps}
 use Rattle.keeping_dm.proofs.ImageLemmas.{IsWithin, agree_one, agrees_as, agrees_with, cases_text, compatible_at, equal_texts, other_texts, pick_agrees, picked, picked_at, picked_else, reserved_unbound}
 use Rattle.keeping_dm.proofs.KeepLemmas.{AreAll, AreLawful, AreWithin, within_list}
 use Rattle.keeping_dm.proofs.TermLemmas.{no_second, one_cell, same_self, same_value, same_with_none, second_there, term_none, there}
-use Rattle.keeping_dm.proofs.VariableLaws.{never_reserved, variable_of-injective}
+use Rattle.names_dm.proofs.VariableLaws.{never_reserved, variable_of-injective}
 
 -- tuples that have the same in these attributes, and nothing else, are one
 same_tuple : (names : List Name) (w v : Tuple) → IsWithin names w → IsWithin names v → ((a : Name) → IsIn a names → w a ≡ v a) → w ≡ v

@@ -17,7 +17,7 @@ use Rattle.pattern_dm.specs.Operators.{renamed}
 use Rattle.keeping_dm.specs.Guards.{rename_to}
 use Rattle.keeping_dm.specs.Keeping.{Agrees}
 use Rattle.keeping_dm.proofs.TermLemmas.{term_of_first}
-use Rattle.keeping_dm.proofs.VariableLaws.{never_reserved, variable_of-injective}
+use Rattle.names_dm.proofs.VariableLaws.{never_reserved, variable_of-injective}
 
 -- ---- names and texts
 

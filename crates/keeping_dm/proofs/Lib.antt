@@ -4,4 +4,3 @@ pub mod KeepLemmas
 pub mod QueryLemmas
 pub mod TermLemmas
 pub mod TupleLemmas
-pub mod VariableLaws

@@ -13,6 +13,6 @@ pub mod SafeForms
 mod TextLists
 pub mod Told
 pub mod Utf8
-mod VariableLaws
+pub mod VariableLaws
 pub mod Words
 pub mod Yielded

@@ -5,3 +5,4 @@ pub mod Depths
 pub mod Telling
 pub mod OneAnswer
 pub mod Named
+pub mod Lawful

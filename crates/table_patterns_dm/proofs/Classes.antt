@@ -24,7 +24,7 @@ use Rattle.pattern_dm.specs.declared.pattern.Condition.TheVariants as conditions
 use Rattle.pattern_dm.specs.declared.pattern.Pattern.{Pattern}
 use Rattle.pattern_dm.specs.declared.pattern.Pattern.TheVariants as patterns
 use Rattle.keeping_dm.specs.Keeping.{Keeps}
-use Rattle.keeping_dm.proofs.VariableLaws.{never_reserved, variable_of-injective}
+use Rattle.names_dm.proofs.VariableLaws.{never_reserved, variable_of-injective}
 use Rattle.table_patterns_dm.specs.TablePatterns.{class_pattern, column_triple, row_variable, type_triple, with_columns, with_optional}
 use Rattle.table_patterns_dm.proofs.Cut.{AgreeOn, IsAlone, Solves, Variables, and_solves, bytes_self, cut, either, keeps_selected, left_solves, one_term, other_bytes, same_bytes, two}
 use Rattle.table_patterns_dm.proofs.Rows.{RowOf, ValueOf, columns_of, node_at, one_tuple, same_row, tuple_in, tuple_under, type_solves, value_at_node, value_at_variable, value_mapping, value_solves}

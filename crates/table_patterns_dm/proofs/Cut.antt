@@ -26,7 +26,7 @@ use Rattle.pattern_dm.specs.declared.pattern.Pattern.TheVariants as patterns
 use Rattle.pattern_dm.specs.declared.pattern.Pattern.TheBlock.{shape-the_row-Pattern-0, hidden-the_row-Pattern-0}
 use Rattle.keeping_dm.specs.Guards.{same_names}
 use Rattle.keeping_dm.specs.Keeping.{Agrees, Keeps}
-use Rattle.keeping_dm.proofs.VariableLaws.{variable_of-injective}
+use Rattle.names_dm.proofs.VariableLaws.{variable_of-injective}
 
 -- ---- mappings cut down to some variables
 

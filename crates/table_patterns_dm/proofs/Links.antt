@@ -42,7 +42,7 @@ use Rattle.pattern_dm.specs.Mappings.{Mapping}
 use Rattle.pattern_dm.specs.declared.pattern.Pattern.{Pattern}
 use Rattle.pattern_dm.specs.declared.pattern.Pattern.TheVariants as patterns
 use Rattle.keeping_dm.specs.Keeping.{Keeps}
-use Rattle.keeping_dm.proofs.VariableLaws.{never_reserved}
+use Rattle.names_dm.proofs.VariableLaws.{never_reserved}
 use Rattle.table_patterns_dm.specs.TablePatterns.{key_triple, relation_pattern, relation_triple, row_variable, second_variable}
 use Rattle.table_patterns_dm.proofs.Classes.{cell_at, cells_of, is_row, not_row, row_there}
 use Rattle.table_patterns_dm.proofs.Cut.{AgreeOn, Solves, Variables, and_solves, bytes_self, either, keeps_selected, link_solves, one_term, other_bytes, same_bytes, two}
