@@ -1,4 +1,10 @@
+pub mod CertainLemmas
 pub mod ClassLemmas
+pub mod FirstClass
+pub mod FormedLemmas
+pub mod FormedParts
+pub mod MadeLemmas
+pub mod PartLemmas
 pub mod PreservationLemmas
 pub mod SomeNames
 pub mod SomeTranslation

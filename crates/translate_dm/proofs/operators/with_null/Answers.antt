@@ -1,0 +1,13 @@
+use Rattle.std.proofs.Common.{◌≡◌, ◌∙◌, ap}
+use Rattle.std.proofs.lemmas.Result.{IfOk-weaker}
+use Rattle.pattern_dm.specs.declared.pattern.Condition.{Condition}
+use Rattle.pattern_dm.specs.declared.pattern.Pattern.{Pattern}
+use Rattle.pattern_dm.specs.declared.pattern.Pattern.TheVariants as patterns
+use Rattle.keeping_dm.specs.Guards.{is_unbound}
+use Rattle.translate_dm.proofs.operators.with_null.Goals as goal
+
+pub returns : goal.returns
+returns c =
+    let part = c.args.part in
+    IfOk-weaker c.filter.result (λ (p : Pattern). p ≡ patterns.Filter part c.in_ok-condition.condition) (λ (p : Pattern). p ≡ patterns.Filter part (is_unbound c.args.name.now))
+    (λ p e. e ∙ ap (λ (f : Condition). patterns.Filter part f) c.in_ok-condition.ensures) c.filter.ensures
