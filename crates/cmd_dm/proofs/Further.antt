@@ -10,7 +10,6 @@ use Rattle.outside_dm.specs.Shelves.{ShelfState}
 use Rattle.outside_dm.specs.Sinks.{SinkState}
 use Rattle.table_csv.specs.Cells.{Row}
 use Rattle.table_csv.specs.Databases.{Data, IsDatabase, rows_at}
-use Rattle.append_dm.specs.Appended.{IsBatchFor}
 use Rattle.cmd_dm.specs.Append.{few_step, further_rows_step, further_tables_step}
 use Rattle.cmd_dm.specs.Ending.{Ends, Leads, Target}
 use Rattle.cmd_dm.specs.Folder.{table_file}

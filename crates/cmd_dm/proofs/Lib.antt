@@ -1,4 +1,6 @@
 pub mod Inverses
+pub mod Answered
+pub mod LawfulQueries
 pub mod Outcomes
 pub mod Endings
 pub mod Lines

@@ -17,6 +17,7 @@ use Rattle.ntriples_dm.specs.Written.{triple_text}
 use Rattle.ntriples_reader_dm.specs.Document.{IsDocument, limit}
 use Rattle.schema_dm.specs.Naming.{column_names}
 use Rattle.schema_dm.specs.declared.table.Table.{Table}
+use Rattle.facts_dm.proofs.NamingInstance.{naming_laws}
 use Rattle.outside_dm.specs.Shelves.{Files, ShelfState, longest}
 use Rattle.outside_dm.specs.Sinks.{SinkState}
 use Rattle.table_csv.specs.Cells.{Row}
@@ -50,16 +51,22 @@ use Rattle.layouts_dm.specs.LayoutTables.{StandsFor}
 use Rattle.inverse_dm.specs.Answers.{Refuses, StandsWithin}
 use Rattle.inverse_dm.specs.declared.error.InverseError.{InverseError}
 use Rattle.inverse_dm.specs.declared.error.InverseError.TheVariants as inverse
-use Rattle.algebra_dm.specs.Nodes.{IsFaultless}
+use Rattle.algebra_dm.specs.Certain.{KeepsKeysOf}
+use Rattle.algebra_dm.specs.Nodes.{IsWellFormed}
 use Rattle.algebra_dm.specs.declared.error.QueryError.{QueryError}
 use Rattle.algebra_dm.specs.declared.error.QueryError.TheVariants as query
+use Rattle.algebra_dm.specs.declared.query.Mode.{Mode}
 use Rattle.algebra_dm.specs.declared.query.Query.{Query as Asked}
-use Rattle.query_text_dm.specs.Answer.{IsAnswer, IsTextOfQuery}
+use Rattle.query_text_dm.specs.Answer.{IsAnswer}
 use Rattle.query_lines_dm.specs.Lines.{AreQueryLines}
+use Rattle.query_lines_dm.proofs.SomeQuery.{read_formed}
+use Rattle.table_patterns_dm.specs.TablePatterns.{graph_of as mode_graph}
 use Rattle.graphs_dm.proofs.Contradictions.{interpreted_below}
 use Rattle.graphs_dm.specs.declared.graph_name.GraphName.{GraphName}
 use Rattle.graphs_dm.specs.declared.graph_name.GraphName.TheVariants as graph
 use Rattle.cmd_dm.specs.Append.{append_script, batch_keys_step, batch_script, few_step, further_rows_step, further_tables_step, more_step, on_batch_violations}
+use Rattle.cmd_dm.specs.Answered.{AreAnswersIn, IsPatternText}
+use Rattle.cmd_dm.specs.Ask.{answers_script, ask_script, pattern_script, question_script, translate_script}
 use Rattle.cmd_dm.specs.Check.{check_script, check_text}
 use Rattle.cmd_dm.specs.Consistent.{consistent_script, verdict_text}
 use Rattle.cmd_dm.specs.Rows.{rows_script}
@@ -71,20 +78,22 @@ use Rattle.cmd_dm.proofs.Inverses.{inverse_answer_unique, inverse_files, files_s
 use Rattle.cmd_dm.proofs.StoredTables.{are_stored}
 use Rattle.cmd_dm.proofs.PlainLimits.{plain_within}
 use Rattle.cmd_dm.specs.Folder.{schema_file, table_file, shape_of}
-use Rattle.cmd_dm.specs.Headline.{HoldsFile, HoldsTables, HoldsDatabase, EndsSo, WritesText, WritesKept, WritesFolder, Checks, Shows, Judges, Promises, Cleans, IsCleanWork, TellsKeys, Inverts, StoresTables, AreStored, GivesBack, IsGraphFile, AnswersQuery, WritesBatch}
-use Rattle.cmd_dm.specs.Plans.{IsOutcome, NamesFile, folder_file, graph_file, plan_of, rows_file}
-use Rattle.cmd_dm.specs.Questions.{IsInverseAnswer, IsQueryAnswer, batch_of, lines_of, violations_of, verdict_of, graph_of, removals_of, left_of, files_of}
+use Rattle.cmd_dm.specs.Headline.{HoldsFile, HoldsTables, HoldsDatabase, EndsSo, WritesText, WritesKept, WritesFolder, Checks, Shows, Judges, Promises, Cleans, IsCleanWork, TellsKeys, Inverts, StoresTables, AreStored, GivesBack, IsGraphFile, AnswersOver, AnswersQuery, HoldsQuestion, RefusesFault, WritesAnswer, WritesBatch}
+use Rattle.cmd_dm.specs.Plans.{IsOutcome, NamesFile, ask_file, folder_file, graph_file, plan_of, rows_file}
+use Rattle.cmd_dm.specs.Questions.{IsInverseAnswer, IsQueryAnswer, answers_of, batch_of, lines_of, violations_of, verdict_of, graph_of, removals_of, left_of, files_of}
 use Rattle.cmd_dm.specs.Clean.{clean_script, clean_work}
 use Rattle.cmd_dm.specs.Reasons.{bad_base, batch_reason, inverse_status, key_reason, query_status, reason}
 use Rattle.cmd_dm.specs.Script.{Script, Work, Outcome, usage, refused, done, text_work, too_long, status_of, Comes, AfterLoad, MayLoad, ask, write, refuse}
-use Rattle.cmd_dm.specs.Steps.{base_step, schema_step, rows_step, tables_step, database_step, folder_step, graph_step, inverse_step, kept_step, keys_step, triples_step, query_step, query_text_step, on_answer, on_violations}
+use Rattle.cmd_dm.specs.Steps.{base_step, schema_step, rows_step, tables_step, database_step, declared_step, folder_step, graph_step, inverse_step, kept_step, keys_step, triples_step, query_step, query_text_step, on_answer, on_violations}
+use Rattle.cmd_dm.proofs.Answered.{as_rows}
 use Rattle.cmd_dm.proofs.Batches.{batch_enlarges_so}
 use Rattle.cmd_dm.proofs.Endings.{ends_exact, status_comes}
 use Rattle.cmd_dm.proofs.Further.{FewBehind, few_first, few_rest, from_first}
 use Rattle.cmd_dm.proofs.Outcomes.{outcome_unique, schema_answer_unique, rows_answer_unique, triples_answer_unique, query_answer_unique}
+use Rattle.cmd_dm.proofs.LawfulQueries.{read_lawful}
 use Rattle.cmd_dm.proofs.SomeOutcome.{declared_schema}
 use Rattle.cmd_dm.specs.declared.command.Command.{Command}
-use Rattle.cmd_dm.specs.declared.command.Command.TheVariants.{Direct, Map, MapKeys, Check, Show, Consistent, Clean, Append, Invert, Rows}
+use Rattle.cmd_dm.specs.declared.command.Command.TheVariants.{Direct, Map, MapKeys, Check, Show, Consistent, Clean, Append, Invert, Rows, Translate, Ask}
 use Rattle.cmd_dm.specs.declared.status.File.{File}
 use Rattle.cmd_dm.specs.declared.status.File.TheVariants.{Schema, Table as TableFile, Query, Graph, Pattern, More}
 use Rattle.cmd_dm.specs.declared.status.Reason.{Reason}
@@ -289,6 +298,75 @@ rows_names folder document nulls Graph name h = tt
 rows_names folder document nulls Pattern name h = tt
 rows_names folder document nulls (More number) name h = tt
 
+-- the schema and the query are loaded by these names, and what is loaded behind them
+question_may_load : (base folder document : List ℕ) (next : List ℕ → List Table → Asked → Script) (file : File) (name : List ℕ) (P : Type 0) → ((tables : List Table) (q : Asked) → MayLoad (next base tables q) file name → P)
+    → ((file ≡ Schema) × (name ≡ schema_file folder) → P) → ((file ≡ Query) × (name ≡ encode_utf8_all document) → P) → MayLoad (question_script base folder document next) file name → P
+unfolding base_step declared_step schema_step query_step query_text_step
+question_may_load base folder document next file name P further at_schema at_query h =
+    by_load (base_may_load (is_base base) (declared_step folder (λ tables. query_step tables document (λ q. next base tables q))) file name h)
+  where
+    by_query : (tables : List Table) → MayLoad (query_step tables document (λ q. next base tables q)) file name → P
+    by_query tables (inl k) = at_query (sym k.0, sym k.1)
+    by_query tables (inr k) = answer_may_load k.1.1.0 (λ q. next base tables q) file name P (λ q l. further tables q l) k.1.1.1.1
+
+    by_load : MayLoad (declared_step folder (λ tables. query_step tables document (λ q. next base tables q))) file name → P
+    by_load (inl k) = at_schema (sym k.0, sym k.1)
+    by_load (inr k) = answer_may_load k.1.1.0 (λ tables. query_step tables document (λ q. next base tables q)) file name P by_query k.1.1.1.1
+
+schema_named : (folder document : List ℕ) (file : File) (name : List ℕ) → (file ≡ Schema) × (name ≡ schema_file folder) → IfSome (rows_file folder document file) (λ named. name ≡ named)
+schema_named folder document Schema name h = h.1
+schema_named folder document (TableFile number) name h = tt
+schema_named folder document Query name h = absurd (no_query h.0)
+  where
+    no_query : Query ≡ Schema → ⊥
+    no_query e = absurd cc
+schema_named folder document Graph name h = tt
+schema_named folder document Pattern name h = tt
+schema_named folder document (More number) name h = tt
+
+query_named : (folder document : List ℕ) (file : File) (name : List ℕ) → (file ≡ Query) × (name ≡ encode_utf8_all document) → IfSome (rows_file folder document file) (λ named. name ≡ named)
+query_named folder document Schema name h = absurd (no_schema h.0)
+  where
+    no_schema : Schema ≡ Query → ⊥
+    no_schema e = absurd cc
+query_named folder document (TableFile number) name h = tt
+query_named folder document Query name h = h.1
+query_named folder document Graph name h = tt
+query_named folder document Pattern name h = tt
+query_named folder document (More number) name h = tt
+
+-- neither the schema's file nor the query's is the graph's
+not_graph : (folder source document : List ℕ) (file : File) (name : List ℕ) → ¬ (file ≡ Graph) → IfSome (rows_file folder document file) (λ named. name ≡ named) → IfSome (ask_file folder source document file) (λ named. name ≡ named)
+not_graph folder source document Schema name other h = h
+not_graph folder source document (TableFile number) name other h = tt
+not_graph folder source document Query name other h = h
+not_graph folder source document Graph name other h = absurd (other refl)
+not_graph folder source document Pattern name other h = tt
+not_graph folder source document (More number) name other h = tt
+
+graph_named : (folder source document : List ℕ) (file : File) (name : List ℕ) → (file ≡ Graph) × (name ≡ encode_utf8_all source) → IfSome (ask_file folder source document file) (λ named. name ≡ named)
+graph_named folder source document file name h = subst (λ (f : File). IfSome (ask_file folder source document f) (λ named. name ≡ named)) (sym h.0) h.1
+
+translate_names : (mode : Mode) (base folder document : List ℕ) (file : File) (name : List ℕ) → MayLoad (translate_script mode base folder document) file name → IfSome (rows_file folder document file) (λ named. name ≡ named)
+translate_names mode base folder document file name h =
+    question_may_load base folder document (pattern_script mode) file name (IfSome (rows_file folder document file) (λ named. name ≡ named))
+    (λ tables q k. absurd k.1.1) (schema_named folder document file name) (query_named folder document file name) h
+
+ask_names : (mode : Mode) (base folder source document : List ℕ) (file : File) (name : List ℕ) → MayLoad (ask_script mode base folder source document) file name
+    → IfSome (ask_file folder source document file) (λ named. name ≡ named)
+ask_names mode base folder source document file name h =
+    question_may_load base folder document (answers_script mode source) file name (IfSome (ask_file folder source document file) (λ named. name ≡ named))
+    (λ tables q k. graph_named folder source document file name
+    (graph_may_load source (λ triples. ask (answers_of mode base tables q triples) (λ text. write (text_work text))) file name (λ triples l. l.1.1) k))
+    (λ k. not_graph folder source document file name (λ e. schema_no_graph (sym k.0 ∙ e)) (schema_named folder document file name k))
+    (λ k. not_graph folder source document file name (λ e. query_no_graph (sym k.0 ∙ e)) (query_named folder document file name k)) h
+  where
+    schema_no_graph : Schema ≡ Graph → ⊥
+    schema_no_graph e = absurd cc
+
+    query_no_graph : Query ≡ Graph → ⊥
+    query_no_graph e = absurd cc
+
 -- behind the number of rows what is next alone is loaded
 few_may_load : (number count : ℕ) (next : Unit {0} → Script) (file : File) (name : List ℕ) → MayLoad (few_step number count next) file name → MayLoad (next tt) file name
 unfolding few_step
@@ -355,6 +433,8 @@ command_names (Direct base folder nulls) file name h = graph_names graph.Direct 
 command_names (Map base folder nulls) file name h = graph_names graph.Map base folder nulls file name h
 command_names (MapKeys base folder nulls) file name h = graph_names graph.MapKeys base folder nulls file name h
 command_names (Rows folder document nulls) file name h = rows_names folder document nulls file name h
+command_names (Translate mode base folder document) file name h = translate_names mode base folder document file name h
+command_names (Ask mode base folder source document) file name h = ask_names mode base folder source document file name h
 command_names (Show document) file name h =
     show_names document file name (graph_may_load document (λ triples. write (text_work (flat_map triple_text triples))) file name (λ triples k. k) h)
 command_names (Consistent document) file name h = show_names document file name (graph_may_load document judged file name (λ triples k. k.1.1) h)
@@ -587,6 +667,19 @@ tells_keys bytes triples document = record {
 
 -- ---- queries
 
+-- why a text is no query
+query_refusal : (tables : List Table) (bytes : List ℕ) (error : QueryError) (P : Status → Type 0) → ¬ (error ≡ query.Memory) → IsAnswer tables bytes (Err error)
+    → ((reason : Reason) → IsQueryAnswer tables bytes (Err reason) → P (Refused reason)) → P (query_status error)
+query_refusal tables bytes (query.BadQuery place) P other h goes = goes _ (query.BadQuery place, h, refl)
+query_refusal tables bytes (query.TooDeep place) P other h goes = goes _ (query.TooDeep place, h, refl)
+query_refusal tables bytes query.NoSuchTable P other h goes = goes _ (query.NoSuchTable, h, refl)
+query_refusal tables bytes query.NoSuchColumn P other h goes = goes _ (query.NoSuchColumn, h, refl)
+query_refusal tables bytes query.NameTaken P other h goes = goes _ (query.NameTaken, h, refl)
+query_refusal tables bytes query.NotSameColumns P other h goes = goes _ (query.NotSameColumns, h, refl)
+query_refusal tables bytes query.EmptyProject P other h goes = goes _ (query.EmptyProject, h, refl)
+query_refusal tables bytes query.TooWide P other h goes = goes _ (query.TooWide, h, refl)
+query_refusal tables bytes query.Memory P other h goes = absurd (other refl)
+
 module _ (folder document : List ℕ) (nulls : NullMode) (files : Files) (D : Data) (bytes : List ℕ) (held : HoldsDatabase files folder nulls D) (there : HoldsFile files (encode_utf8_all document) bytes) where
   -- a run comes to what the answer leads to
   rows_come : (outcome : Outcome) → Comes files (rows_script folder document nulls) outcome → (answer : Result Asked Reason) × (IsQueryAnswer D.tables bytes answer × Comes files (on_answer answer (told_lines D)) outcome)
@@ -609,19 +702,81 @@ module _ (folder document : List ℕ) (nulls : NullMode) (files : Files) (D : Da
         let same = query_answer_unique D.tables bytes found.0 (Err reason) found.1.0 right in
         subst (λ (answer : Result Asked Reason). Comes files (on_answer answer (told_lines D)) outcome) same found.1.1)
 
-    refuses_fault : (error : QueryError) → ¬ (error ≡ query.Memory) → IsAnswer D.tables bytes (Err error) → EndsSo (query_status error) s t o p status
-    refuses_fault (query.BadQuery place) other h = refuses_query _ (query.BadQuery place, h, refl)
-    refuses_fault (query.TooDeep place) other h = refuses_query _ (query.TooDeep place, h, refl)
-    refuses_fault query.NoSuchTable other h = refuses_query _ (query.NoSuchTable, h, refl)
-    refuses_fault query.NoSuchColumn other h = refuses_query _ (query.NoSuchColumn, h, refl)
-    refuses_fault query.NameTaken other h = refuses_query _ (query.NameTaken, h, refl)
-    refuses_fault query.NotSameColumns other h = refuses_query _ (query.NotSameColumns, h, refl)
-    refuses_fault query.EmptyProject other h = refuses_query _ (query.EmptyProject, h, refl)
-    refuses_fault query.TooWide other h = refuses_query _ (query.TooWide, h, refl)
-    refuses_fault query.Memory other h = absurd (other refl)
+    answers_query : AnswersQuery (AreQueryLines D) D.tables bytes s t o p status
+    answers_query = record {
+      answered = λ q text faultless. writes_lines q (text, faultless);
+      refused = λ error other h. query_refusal D.tables bytes error (λ status'. EndsSo status' s t o p status) other h refuses_query;
+    }
 
-    answers_query : AnswersQuery D bytes s t o p status
-    answers_query = record { answered = λ q text faultless. writes_lines q (text, faultless); refused = refuses_fault }
+-- ---- questions
+
+module _ (base folder document : List ℕ) (next : List ℕ → List Table → Asked → Script) (files : Files) (tables : List Table) (bytes : List ℕ) (good : IsTrue (is_base base))
+    (held : HoldsQuestion files folder document tables bytes) where
+  -- a run comes to what the answer leads to
+  question_comes : (outcome : Outcome) → Comes files (question_script base folder document next) outcome → (answer : Result Asked Reason) × (IsQueryAnswer tables bytes answer × Comes files (on_answer answer (next base tables)) outcome)
+  unfolding base_step declared_step schema_step query_step query_text_step
+  question_comes outcome h =
+      let step : List Table → Script = λ tables. query_step tables document (λ q. next base tables q) in
+      let loads : Comes files (declared_step folder step) outcome = subst (λ (b : Bool). Comes files (cond b (declared_step folder step) (refuse bad_base)) outcome) good h in
+      let asked = after_load Schema (get files (schema_file folder)) held.schema (λ bytes. Comes files (schema_step bytes step) outcome) outcome held.holds.held held.holds.short loads in
+      let right = schema_answer_unique held.schema asked.0 (Ok tables) asked.1.0 held.reads in
+      let behind = on_known files asked.0 tables step outcome right asked.1.1 in
+      after_load Query (get files (encode_utf8_all document)) bytes (λ bytes. Comes files (query_text_step tables bytes (next base tables)) outcome) outcome held.asks.held held.asks.short behind
+
+  module _ {s t : ShelfState} {o p : SinkState} (status : Status) (ends : Ends to_output (question_script base folder document next) s t o p status) (told : s.files ≡ Some files) where
+    writes_answer : (IsText : List ℕ → Type 0) (q : Asked) → IsAnswer tables bytes (Ok q)
+        → ((outcome : Outcome) → Comes files (next base tables q) outcome → (text : List ℕ) × (IsText text × (outcome ≡ done (text_work text)))) → WritesText IsText s t o p status
+    writes_answer IsText q is writes = writes_text IsText (question_script base folder document next) status files ends told (λ outcome h.
+        let found = question_comes outcome h in
+        let right = query_answer_unique tables bytes found.0 (Ok q) found.1.0 is in
+        writes outcome (on_known files found.0 q (next base tables) outcome right found.1.1))
+
+    refuses_question : (reason : Reason) → IsQueryAnswer tables bytes (Err reason) → EndsSo (Refused reason) s t o p status
+    refuses_question reason right = ends_so files (refused reason) ends told (λ outcome h.
+        let found = question_comes outcome h in
+        let same = query_answer_unique tables bytes found.0 (Err reason) found.1.0 right in
+        subst (λ (answer : Result Asked Reason). Comes files (on_answer answer (next base tables)) outcome) same found.1.1)
+
+    refuses_fault : RefusesFault tables bytes s t o p status
+    refuses_fault error other h = query_refusal tables bytes error (λ status'. EndsSo status' s t o p status) other h refuses_question
+
+module _ (mode : Mode) (base folder document : List ℕ) (files : Files) (tables : List Table) (bytes : List ℕ) (good : IsTrue (is_base base)) (held : HoldsQuestion files folder document tables bytes) where
+  translates : {s t : ShelfState} {o p : SinkState} (status : Status) → Ends to_output (translate_script mode base folder document) s t o p status → s.files ≡ Some files
+      → AnswersQuery (IsPatternText mode base tables) tables bytes s t o p status
+  translates status ends told = record {
+    answered = λ q text faultless. writes_answer base folder document (pattern_script mode) files tables bytes good held status ends told (IsPatternText mode base tables q) q (text, faultless)
+        (λ outcome h. (h.0, (h.1.0.1, h.1.1)));
+    refused = refuses_fault base folder document (pattern_script mode) files tables bytes good held status ends told;
+  }
+
+module _ (mode : Mode) (base folder source document : List ℕ) (files : Files) (tables : List Table) (bytes text : List ℕ) (triples : List Statement) (good : IsTrue (is_base base))
+    (held : HoldsQuestion files folder document tables bytes) (there : HoldsFile files (encode_utf8_all source) text) (is : IsDocument text triples) (few : length triples ≤ limit) where
+  -- behind the query a run comes to the lines of the solutions
+  answer_comes : (q : Asked) (outcome : Outcome) → Comes files (answers_script mode source base tables q) outcome → (lines : List ℕ) × (AreAnswersIn mode base tables q triples lines × (outcome ≡ done (text_work lines)))
+  unfolding graph_step triples_step
+  answer_comes q outcome h =
+      let put : List Statement → Script = λ triples. ask (answers_of mode base tables q triples) (λ text. write (text_work text)) in
+      let asked = after_load Graph (get files (encode_utf8_all source)) text (λ bytes. Comes files (triples_step bytes put) outcome) outcome there.held there.short h in
+      let right = triples_answer_unique text asked.0 (Ok triples) asked.1.0 (is, few) in
+      let found = on_known files asked.0 triples put outcome right asked.1.1 in
+      (found.0, (found.1.0.1, found.1.1))
+
+  module _ {s t : ShelfState} {o p : SinkState} (status : Status) (ends : Ends to_output (ask_script mode base folder source document) s t o p status) (told : s.files ≡ Some files) where
+    writes_solutions : WritesAnswer (λ q lines. AreAnswersIn mode base tables q triples lines) tables bytes s t o p status
+    writes_solutions q query_is faultless =
+        writes_answer base folder document (answers_script mode source) files tables bytes good held status ends told (AreAnswersIn mode base tables q triples) q (query_is, faultless) (answer_comes q)
+
+    writes_as_rows : (D : Data) → IsText base → IsDatabase D → D.tables ≡ tables → KeepsKeysOf mode D → IsGraphText (mode_graph mode) base D text → WritesAnswer (AreQueryLines D) tables bytes s t o p status
+    writes_as_rows D is_text database same keys written q query_is faultless =
+        writes_answer base folder document (answers_script mode source) files tables bytes good held status ends told (AreQueryLines D q) q (query_is, faultless) (λ outcome h.
+        let found = answer_comes q outcome h in
+        let formed = subst (λ (ts : List Table). IsWellFormed ts q) (sym same) (read_formed tables bytes q (query_is, faultless)) in
+        let here : AreAnswersIn mode base D.tables q triples found.0 = subst (λ (ts : List Table). AreAnswersIn mode base ts q triples found.0) (sym same) found.1.0 in
+        let are = exactly base (is_iri-base base good, is_text) D database (mode_graph mode) text triples written is in
+        (found.0, (as_rows mode base (naming_laws base good) D database keys q formed (read_lawful bytes q query_is) triples found.0 are here, found.1.1)))
+
+    answers_over : AnswersOver mode base tables bytes text triples s t o p status
+    answers_over = record { solutions = writes_solutions; rows = writes_as_rows }
 
 -- ---- tables that come back
 
@@ -788,6 +943,11 @@ promised (Invert base document out) status ends = λ files bytes triples told go
     (inverts base document out files bytes triples good held is few status ends told, λ D text database graph_is. gives_back base document out files bytes triples good held is few D text database graph_is status ends told)
 promised (Append base folder more nulls) status ends = λ files D batch told good held fits there. writes_batch base folder more nulls files D batch good held fits there status ends told
 promised (Rows folder document nulls) status ends = λ files D bytes told held there. answers_query folder document nulls files D bytes held there status ends told
+promised (Translate mode base folder document) status ends = λ files tables bytes told good held. translates mode base folder document files tables bytes good held status ends told
+promised (Ask mode base folder source document) status ends = λ files tables bytes told good held. (
+  refuses_fault base folder document (answers_script mode source) files tables bytes good held status ends told,
+  λ text triples there is few. answers_over mode base folder source document files tables bytes text triples good held there is few status ends told,
+)
 promised (Show document) status ends = λ files bytes triples told held is few. shows document files bytes triples status ends told held is few
 promised (Clean folder out nulls) status ends = λ files D told held. cleans folder out nulls files D status ends told held
 promised (Consistent document) status ends = λ files bytes triples told held is few. (judges document files bytes triples status ends told held is few, tells_keys bytes triples is)

@@ -52,30 +52,34 @@ use Rattle.clean_dm.proofs.RowsLeft.{rows_some}
 use Rattle.clean_dm.proofs.SomeCleaning.{cleaning_some}
 use Rattle.algebra_dm.specs.declared.error.QueryError.{QueryError}
 use Rattle.algebra_dm.specs.declared.error.QueryError.TheVariants as query
+use Rattle.algebra_dm.specs.declared.query.Mode.{Mode}
 use Rattle.algebra_dm.specs.declared.query.Query.{Query}
+use Rattle.algebra_dm.specs.Nodes.{IsWellFormed}
 use Rattle.query_text_dm.specs.Answer.{IsAnswer as IsReadAs}
 use Rattle.query_lines_dm.proofs.SomeLines.{query_lines_some}
-use Rattle.query_lines_dm.proofs.SomeQuery.{query_some}
+use Rattle.query_lines_dm.proofs.SomeQuery.{query_some, read_formed}
 use Rattle.cmd_dm.specs.Append.{append_script, batch_keys_step, batch_script, few_step, further_rows_step, further_tables_step, more_step, on_batch_violations}
+use Rattle.cmd_dm.specs.Ask.{answers_script, ask_script, pattern_script, question_script, translate_script}
 use Rattle.cmd_dm.specs.Clean.{clean_script, clean_work}
 use Rattle.cmd_dm.specs.Folder.{AreFilesOf, schema_file, shape_of, table_file}
 use Rattle.cmd_dm.specs.GraphScript.{graph_script}
 use Rattle.cmd_dm.specs.Invert.{files_work, invert_script}
 use Rattle.cmd_dm.proofs.Inverses.{inverse_answer_some}
 use Rattle.cmd_dm.specs.Plans.{IsOutcome}
-use Rattle.cmd_dm.specs.Questions.{IsSchemaAnswer, IsRowsAnswer, IsTriplesAnswer, IsQueryAnswer, batch_of, lines_of, graph_of, verdict_of, violations_of, files_of, left_of, removals_of}
+use Rattle.cmd_dm.specs.Questions.{IsSchemaAnswer, IsRowsAnswer, IsTriplesAnswer, IsQueryAnswer, answers_of, batch_of, lines_of, graph_of, verdict_of, violations_of, files_of, left_of, removals_of}
 use Rattle.cmd_dm.specs.Reasons.{bad_base, batch_reason, cause_code, key_reason, reason}
 use Rattle.cmd_dm.specs.Script.{Script, Outcome, usage, refused, absent, too_long, done, text_work, AfterLoad, Comes, ask, refuse, write}
-use Rattle.cmd_dm.specs.Steps.{base_step, database_step, folder_step, graph_step, inverse_step, kept_step, keys_step, on_answer, on_violations, query_step, query_text_step, rows_step, schema_step, tables_step, triples_step}
+use Rattle.cmd_dm.specs.Steps.{base_step, database_step, declared_step, folder_step, graph_step, inverse_step, kept_step, keys_step, on_answer, on_violations, query_step, query_text_step, rows_step, schema_step, tables_step, triples_step}
 use Rattle.cmd_dm.specs.Check.{check_text}
 use Rattle.cmd_dm.specs.Consistent.{consistent_script, verdict_text}
 use Rattle.cmd_dm.specs.Rows.{rows_script}
 use Rattle.cmd_dm.specs.Show.{show_script}
 use Rattle.cmd_dm.specs.declared.command.Command.{Command}
+use Rattle.cmd_dm.proofs.Answered.{answers_some, pattern_text_some}
 use Rattle.cmd_dm.proofs.Batches.{batch_text_some}
 use Rattle.cmd_dm.proofs.Further.{FewBehind, few_alone, few_cons, in_all}
 use Rattle.cmd_dm.proofs.Subjects.{document_subjects}
-use Rattle.cmd_dm.specs.declared.command.Command.TheVariants.{Direct, Map, MapKeys, Check, Show, Consistent, Clean, Append, Invert, Rows}
+use Rattle.cmd_dm.specs.declared.command.Command.TheVariants.{Direct, Map, MapKeys, Check, Show, Consistent, Clean, Append, Invert, Rows, Translate, Ask}
 use Rattle.cmd_dm.specs.declared.status.File.{File}
 use Rattle.cmd_dm.specs.declared.status.File.TheVariants.{Schema, Table as TableFile, Graph, Query as QueryFile, More}
 use Rattle.cmd_dm.specs.declared.status.Reason.{Reason}
@@ -338,6 +342,54 @@ query_rows_some files folder name nulls =
     on_query D (Ok q) none = query_lines_some D q (λ text lines. none (done (text_work text)) (text, (lines, refl)))
     on_query D (Err why) none = none (refused why) refl
 
+-- ---- questions
+
+declared_some : (files : Files) (folder : List ℕ) (next : List Table → Script) → ((tables : List Table) → IsSchema tables → SomeComes files (next tables)) → SomeComes files (declared_step folder next)
+unfolding declared_step schema_step
+declared_some files folder next some none =
+    some_loaded Schema (get files (schema_file folder)) (λ bytes o. Comes files (schema_step bytes next) o)
+    (λ bytes none. schema_answer_some bytes (λ answer right. on_tables bytes answer right (λ o comes. none o (answer, (right, comes))))) none
+  where
+    on_tables : (bytes : List ℕ) (answer : Result (List Table) Reason) → IsSchemaAnswer bytes answer → SomeComes files (on_answer answer next)
+    on_tables bytes (Ok tables) right none = some tables (declared_schema bytes tables right) none
+    on_tables bytes (Err why) right none = none (refused why) refl
+
+asked_some : (files : Files) (tables : List Table) (name : List ℕ) (next : Query → Script) → ((q : Query) → IsWellFormed tables q → SomeComes files (next q)) → SomeComes files (query_step tables name next)
+unfolding query_step query_text_step
+asked_some files tables name next some none =
+    some_loaded QueryFile (get files (encode_utf8_all name)) (λ bytes o. Comes files (query_text_step tables bytes next) o)
+    (λ bytes none. query_answer_some tables bytes (λ answer right. on_query bytes answer right (λ o comes. none o (answer, (right, comes))))) none
+  where
+    on_query : (bytes : List ℕ) (answer : Result Query Reason) → IsQueryAnswer tables bytes answer → SomeComes files (on_answer answer next)
+    on_query bytes (Ok q) right none = some q (read_formed tables bytes q right) none
+    on_query bytes (Err why) right none = none (refused why) refl
+
+question_some : (files : Files) (base folder name : List ℕ) (next : List ℕ → List Table → Query → Script)
+    → ((tables : List Table) (q : Query) → IsSchema tables → IsWellFormed tables q → SomeComes files (next base tables q)) → SomeComes files (question_script base folder name next)
+question_some files base folder name next some =
+    base_some files base (λ base. declared_step folder (λ tables. query_step tables name (λ q. next base tables q)))
+    (declared_some files folder (λ tables. query_step tables name (λ q. next base tables q)) (λ tables schema.
+    asked_some files tables name (λ q. next base tables q) (λ q formed. some tables q schema formed)))
+
+translate_some : (files : Files) (mode : Mode) (base folder name : List ℕ) → SomeComes files (translate_script mode base folder name)
+translate_some files mode base folder name =
+    question_some files base folder name (pattern_script mode) (λ tables q schema formed none.
+    pattern_text_some mode base tables q schema formed (λ text is. none (done (text_work text)) (text, ((schema, is), refl))))
+
+ask_some : (files : Files) (mode : Mode) (base folder document name : List ℕ) → SomeComes files (ask_script mode base folder document name)
+unfolding graph_step triples_step
+ask_some files mode base folder document name =
+    question_some files base folder name (answers_script mode document) (λ tables q schema formed none.
+    some_loaded Graph (get files (encode_utf8_all document)) (λ bytes o. Comes files (triples_step bytes (put tables q)) o)
+    (λ bytes none. triples_answer_some bytes (λ answer right. on_triples tables q schema formed answer (λ o comes. none o (answer, (right, comes))))) none)
+  where
+    put : List Table → Query → List Statement → Script
+    put tables q triples = ask (answers_of mode base tables q triples) (λ text. write (text_work text))
+
+    on_triples : (tables : List Table) (q : Query) → IsSchema tables → IsWellFormed tables q → (answer : Result (List Statement) Reason) → SomeComes files (on_answer answer (put tables q))
+    on_triples tables q schema formed (Ok triples) none = answers_some mode base tables q schema formed triples (λ text is. none (done (text_work text)) (text, ((schema, is), refl)))
+    on_triples tables q schema formed (Err why) none = none (refused why) refl
+
 -- ---- batches
 
 few_some : (files : Files) (number count : ℕ) (next : Unit {0} → Script) → (count ≤ 4194304 → SomeComes files (next tt)) → SomeComes files (few_step number count next)
@@ -411,6 +463,8 @@ words_some files (Some (Clean folder out nulls)) none = clean_some files folder 
 words_some files (Some (Append base folder more nulls)) none = append_some files base folder more nulls none
 words_some files (Some (Invert base name out)) none = invert_some files base name out none
 words_some files (Some (Rows folder name nulls)) none = query_rows_some files folder name nulls none
+words_some files (Some (Translate mode base folder name)) none = translate_some files mode base folder name none
+words_some files (Some (Ask mode base folder document name)) none = ask_some files mode base folder document name none
 words_some files (Some (Show name)) none = show_some files name none
 words_some files (Some (Consistent name)) none = consistent_some files name none
 words_some files (Some (Check folder nulls)) none =

@@ -36,15 +36,19 @@ use Rattle.consistency_dm.specs.Conflicts.{IsVerdict}
 use Rattle.consistency_dm.specs.declared.verdict.Verdict.{Verdict}
 use Rattle.consistency_dm.specs.declared.verdict.Verdict.TheVariants.{Yes}
 use Rattle.algebra_dm.specs.Nodes.{IsFaultless}
+use Rattle.algebra_dm.specs.Certain.{KeepsKeysOf}
 use Rattle.algebra_dm.specs.declared.error.QueryError.{QueryError}
 use Rattle.algebra_dm.specs.declared.error.QueryError.TheVariants as query
+use Rattle.algebra_dm.specs.declared.query.Mode.{Mode}
 use Rattle.algebra_dm.specs.declared.query.Query.{Query}
 use Rattle.query_text_dm.specs.Answer.{IsAnswer, IsTextOfQuery}
 use Rattle.query_lines_dm.specs.Lines.{AreQueryLines}
+use Rattle.table_patterns_dm.specs.TablePatterns.{graph_of}
 use Rattle.graphs_dm.specs.Graphs.{AreTriplesOf, IsGraphText}
 use Rattle.graphs_dm.specs.Interpreted.{IsInterpretedWhereKept}
 use Rattle.graphs_dm.specs.declared.graph_name.GraphName.{GraphName}
 use Rattle.graphs_dm.specs.declared.graph_name.GraphName.TheVariants as graph
+use Rattle.cmd_dm.specs.Answered.{AreAnswersIn, IsPatternText}
 use Rattle.cmd_dm.specs.Check.{check_text}
 use Rattle.cmd_dm.specs.Consistent.{verdict_text}
 use Rattle.cmd_dm.specs.Ending.{NoFault, Wrote}
@@ -53,7 +57,7 @@ use Rattle.cmd_dm.specs.Clean.{clean_work}
 use Rattle.cmd_dm.specs.Reasons.{batch_reason, inverse_status, key_reason, query_status}
 use Rattle.cmd_dm.specs.Script.{Work}
 use Rattle.cmd_dm.specs.declared.command.Command.{Command}
-use Rattle.cmd_dm.specs.declared.command.Command.TheVariants.{Direct, Map, MapKeys, Check, Show, Consistent, Clean, Append, Invert, Rows}
+use Rattle.cmd_dm.specs.declared.command.Command.TheVariants.{Direct, Map, MapKeys, Check, Show, Consistent, Clean, Append, Invert, Rows, Translate, Ask}
 use Rattle.cmd_dm.specs.declared.status.Status.{Status}
 use Rattle.cmd_dm.specs.declared.status.Status.TheVariants.{Ok as Done, Refused, Memory}
 
@@ -177,11 +181,35 @@ pub record GivesBack (base out : List ℕ) (D : Data) (old new : ShelfState) (be
   pub some : (plain : List PlainTable) × IsPlain D plain
   pub stores : (plain : List PlainTable) → IsPlain D plain → StoresTables out plain old new before after status
 
--- `rows`: where the bytes are the text of a query that has no fault over the tables, the lines of its tuples are written; else the
--- run is refused for the first fault
-pub record AnswersQuery (D : Data) (bytes : List ℕ) (old new : ShelfState) (before after : SinkState) (status : Status) : Type 0 where
-  pub answered : (q : Query) → IsTextOfQuery bytes q → IsFaultless D.tables q → WritesText (AreQueryLines D q) old new before after status
-  pub refused : (error : QueryError) → error ≢ query.Memory → IsAnswer D.tables bytes (Err error) → EndsSo (query_status error) old new before after status
+-- where the bytes are the text of a query that has no fault over the tables, such a text is written
+abbrev pub WritesAnswer : (Query → List ℕ → Type 0) → List Table → List ℕ → ShelfState → ShelfState → SinkState → SinkState → Status → Type 0
+WritesAnswer IsText tables bytes old new before after status =
+    (q : Query) → IsTextOfQuery bytes q → IsFaultless tables q → WritesText (IsText q) old new before after status
+
+-- where they are none the run is refused for the first fault
+abbrev pub RefusesFault : List Table → List ℕ → ShelfState → ShelfState → SinkState → SinkState → Status → Type 0
+RefusesFault tables bytes old new before after status =
+    (error : QueryError) → error ≢ query.Memory → IsAnswer tables bytes (Err error) → EndsSo (query_status error) old new before after status
+
+-- of a query without a fault such a text is written; for the first fault the run is refused
+pub record AnswersQuery (IsText : Query → List ℕ → Type 0) (tables : List Table) (bytes : List ℕ) (old new : ShelfState) (before after : SinkState) (status : Status) : Type 0 where
+  pub answered : WritesAnswer IsText tables bytes old new before after status
+  pub refused : RefusesFault tables bytes old new before after status
+
+-- the folder's schema declares these tables, and the bytes are those of the query's file
+pub record HoldsQuestion (files : Files) (folder name : List ℕ) (tables : List Table) (bytes : List ℕ) : Type 0 where
+  pub schema : List ℕ
+  pub holds : HoldsFile files (schema_file folder) schema
+  pub reads : IsDdl schema tables
+  pub asks : HoldsFile files (encode_utf8_all name) bytes
+
+-- `ask`: the solutions of the query's pattern over the triples of a graph file are written; and where the file has the text of the
+-- graph that the mode speaks of, of a database with these tables that keeps the keys that the mode speaks of, these are exactly the
+-- lines of the query's tuples, as `rows` writes them
+pub record AnswersOver (mode : Mode) (base : List ℕ) (tables : List Table) (bytes text : List ℕ) (triples : List Statement) (old new : ShelfState) (before after : SinkState) (status : Status) : Type 0 where
+  pub solutions : WritesAnswer (λ q lines. AreAnswersIn mode base tables q triples lines) tables bytes old new before after status
+  pub rows : (D : Data) → IsText base → IsDatabase D → D.tables ≡ tables → KeepsKeysOf mode D → IsGraphText (graph_of mode) base D text
+      → WritesAnswer (AreQueryLines D) tables bytes old new before after status
 
 -- `show`: the lines of the triples in their written form, in their order, are written
 abbrev pub Shows : List Statement → ShelfState → ShelfState → SinkState → SinkState → Status → Type 0
@@ -218,7 +246,15 @@ Promises (Invert base name out) old new before after status =
     × ((D : Data) → IsText base → IsDatabase D → IsGraphFile base D bytes → GivesBack base out D old new before after status)
 Promises (Rows folder name nulls) old new before after status =
     (files : Files) (D : Data) (bytes : List ℕ) → old.files ≡ Some files → HoldsDatabase files folder nulls D → HoldsFile files (encode_utf8_all name) bytes
-    → AnswersQuery D bytes old new before after status
+    → AnswersQuery (AreQueryLines D) D.tables bytes old new before after status
+Promises (Translate mode base folder name) old new before after status =
+    (files : Files) (tables : List Table) (bytes : List ℕ) → old.files ≡ Some files → IsTrue (is_base base) → HoldsQuestion files folder name tables bytes
+    → AnswersQuery (IsPatternText mode base tables) tables bytes old new before after status
+Promises (Ask mode base folder document name) old new before after status =
+    (files : Files) (tables : List Table) (bytes : List ℕ) → old.files ≡ Some files → IsTrue (is_base base) → HoldsQuestion files folder name tables bytes
+    → RefusesFault tables bytes old new before after status
+    × ((text : List ℕ) (triples : List Statement) → HoldsFile files (encode_utf8_all document) text → IsDocument text triples → length triples ≤ limit
+    → AnswersOver mode base tables bytes text triples old new before after status)
 Promises (Show name) old new before after status =
     (files : Files) (bytes : List ℕ) (triples : List Statement) → old.files ≡ Some files → HoldsFile files (encode_utf8_all name) bytes → IsDocument bytes triples → length triples ≤ limit
     → Shows triples old new before after status

@@ -3,6 +3,7 @@ pub mod Words
 pub mod FaultLine
 pub mod Pieces
 pub mod Reasons
+pub mod Answered
 pub mod Questions
 pub mod Script
 pub mod Ending
@@ -13,6 +14,7 @@ pub mod Check
 pub mod Clean
 pub mod Append
 pub mod Rows
+pub mod Ask
 pub mod Show
 pub mod Consistent
 pub mod Plans

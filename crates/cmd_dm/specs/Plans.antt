@@ -3,6 +3,7 @@ use Rattle.std.specs.Prelude.{◌≡◌, ℕ, List, Option, Some, None, IfSome, 
 use Rattle.outside_dm.specs.Shelves.{Files}
 use Rattle.graphs_dm.specs.declared.graph_name.GraphName.TheVariants as graph
 use Rattle.cmd_dm.specs.Append.{append_script}
+use Rattle.cmd_dm.specs.Ask.{ask_script, translate_script}
 use Rattle.cmd_dm.specs.Check.{check_script}
 use Rattle.cmd_dm.specs.Consistent.{consistent_script}
 use Rattle.cmd_dm.specs.Clean.{clean_script}
@@ -16,7 +17,7 @@ use Rattle.cmd_dm.specs.Script.{Script, Outcome, usage, Comes}
 use Rattle.cmd_dm.specs.declared.status.File.{File}
 use Rattle.cmd_dm.specs.declared.status.File.TheVariants.{Schema, Query, Graph}
 use Rattle.cmd_dm.specs.declared.command.Command.{Command}
-use Rattle.cmd_dm.specs.declared.command.Command.TheVariants.{Direct, Map, MapKeys, Check, Show, Consistent, Clean, Append, Invert, Rows}
+use Rattle.cmd_dm.specs.declared.command.Command.TheVariants.{Direct, Map, MapKeys, Check, Show, Consistent, Clean, Append, Invert, Rows, Translate, Ask}
 
 pub record Plan : Type 0 where
   pub target : Target
@@ -31,6 +32,8 @@ plan_of (Clean folder out nulls) = record { target = to_both; script = clean_scr
 plan_of (Append base folder more nulls) = record { target = to_output; script = append_script base folder more nulls }
 plan_of (Invert base name out) = record { target = to_shelf; script = invert_script base name out }
 plan_of (Rows folder name nulls) = record { target = to_output; script = rows_script folder name nulls }
+plan_of (Translate mode base folder name) = record { target = to_output; script = translate_script mode base folder name }
+plan_of (Ask mode base folder document name) = record { target = to_output; script = ask_script mode base folder document name }
 plan_of (Show name) = record { target = to_output; script = show_script name }
 plan_of (Consistent name) = record { target = to_output; script = consistent_script name }
 
@@ -50,6 +53,11 @@ rows_file folder name Schema = Some (schema_file folder)
 rows_file folder name Query = Some (encode_utf8_all name)
 rows_file folder name _ = None
 
+-- the file of the schema, the query or the graph, where it is the file
+abbrev pub ask_file : List ℕ → List ℕ → List ℕ → File → Option (List ℕ)
+ask_file folder document name Graph = Some (encode_utf8_all document)
+ask_file folder document name file = rows_file folder name file
+
 -- the names of the files that the words alone name
 abbrev pub file_of : Command → File → Option (List ℕ)
 file_of (Direct base folder nulls) file = folder_file folder file
@@ -60,6 +68,8 @@ file_of (Clean folder out nulls) file = folder_file folder file
 file_of (Append base folder more nulls) file = folder_file folder file
 file_of (Invert base name out) file = graph_file name file
 file_of (Rows folder name nulls) file = rows_file folder name file
+file_of (Translate mode base folder name) file = rows_file folder name file
+file_of (Ask mode base folder document name) file = ask_file folder document name file
 file_of (Show name) file = graph_file name file
 file_of (Consistent name) file = graph_file name file
 

@@ -9,6 +9,7 @@ use Rattle.names_dm.specs.Statements.{Statement}
 use Rattle.ntriples_reader_dm.specs.Answer.{IsAnswer}
 use Rattle.ntriples_reader_dm.specs.declared.fault.GraphError.{GraphError}
 use Rattle.schema_dm.specs.Naming.{column_names}
+use Rattle.schema_dm.specs.Schemas.{IsSchema}
 use Rattle.schema_dm.specs.declared.draft.Column.{Column}
 use Rattle.schema_dm.specs.declared.table.Table.{Table}
 use Rattle.ddl_dm.specs.declared.ddl.DdlError.{DdlError}
@@ -34,9 +35,11 @@ use Rattle.clean_dm.specs.declared.removal.Removal.{Removal}
 use Rattle.inverse_dm.specs.Answers.{Refuses, StandsWithin}
 use Rattle.inverse_dm.specs.declared.error.InverseError.{InverseError}
 use Rattle.algebra_dm.specs.declared.error.QueryError.{QueryError}
+use Rattle.algebra_dm.specs.declared.query.Mode.{Mode}
 use Rattle.algebra_dm.specs.declared.query.Query.{Query}
 use Rattle.query_text_dm.specs.Answer.{IsAnswer as IsReadAs}
 use Rattle.query_lines_dm.specs.Lines.{AreQueryLines}
+use Rattle.cmd_dm.specs.Answered.{AreAnswersIn, IsPatternText}
 use Rattle.cmd_dm.specs.Folder.{AreFilesOf, AreFolderFiles}
 use Rattle.cmd_dm.specs.Reasons.{ddl_status, graph_status, inverse_status, query_status, table_status}
 use Rattle.cmd_dm.specs.declared.status.Reason.{Reason}
@@ -69,6 +72,10 @@ pub data Question : Type 0 where
   query_of : List Table → List ℕ → Question
   -- the lines of the query's rows
   lines_of : Data → Query → Question
+  -- the text of the query's pattern over the graph that the mode speaks of, where the tables are a schema's
+  pattern_of : Mode → List ℕ → List Table → Query → Question
+  -- the lines of the solutions of this pattern over the triples, where the tables are a schema's
+  answers_of : Mode → List ℕ → List Table → Query → List Statement → Question
 
 -- what an answer to the question is: a value, or why the bytes are refused
 abbrev pub AnswerTo : Question → Type 0
@@ -85,6 +92,8 @@ AnswerTo (files_of folder tables rows) = Batch
 AnswerTo (inverse_of base triples folder) = Result Batch Reason
 AnswerTo (query_of tables bytes) = Result Query Reason
 AnswerTo (lines_of D q) = List ℕ
+AnswerTo (pattern_of mode base tables q) = List ℕ
+AnswerTo (answers_of mode base tables q triples) = List ℕ
 
 abbrev pub IsSchemaAnswer : List ℕ → Result (List Table) Reason → Type 0
 IsSchemaAnswer bytes (Ok tables) = IsDdl bytes tables
@@ -128,3 +137,5 @@ Answers (files_of folder tables rows) files = AreFilesOf folder tables rows file
 Answers (inverse_of base triples folder) answer = IsTrue (is_base base) × IsInverseAnswer base triples folder answer
 Answers (query_of tables bytes) answer = IsQueryAnswer tables bytes answer
 Answers (lines_of D q) text = AreQueryLines D q text
+Answers (pattern_of mode base tables q) text = IsSchema tables × IsPatternText mode base tables q text
+Answers (answers_of mode base tables q triples) text = IsSchema tables × AreAnswersIn mode base tables q triples text

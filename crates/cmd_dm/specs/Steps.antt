@@ -33,6 +33,10 @@ base_step word next = if is_base word then next word else refuse bad_base
 unfoldable pub schema_step : List ℕ → (List Table → Script) → Script
 schema_step bytes next = ask (schema_of bytes) (λ answer. on_answer answer next)
 
+-- the schema of the folder, without its tables' files
+unfoldable pub declared_step : List ℕ → (List Table → Script) → Script
+declared_step folder next = load file.Schema (schema_file folder) (λ bytes. schema_step bytes next)
+
 -- the rows of the bytes of the file of the table with this number
 unfoldable pub rows_step : List Column → NullMode → ℕ → List ℕ → (List Row → Script) → Script
 rows_step columns mode number bytes next = ask (rows_of columns mode number bytes) (λ answer. on_answer answer next)

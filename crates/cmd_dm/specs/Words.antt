@@ -4,10 +4,12 @@ use Rattle.std.specs.Option.{option_map}
 use Rattle.std.specs.Str.{bytes_eq}
 use Rattle.value_dm.specs.declared.mode.NullMode.{NullMode}
 use Rattle.value_dm.specs.declared.mode.NullMode.TheVariants.{Plain, EmptyNull}
+use Rattle.algebra_dm.specs.declared.query.Mode.{Mode}
+use Rattle.algebra_dm.specs.declared.query.Mode.TheVariants as modes
 use Rattle.graphs_dm.specs.declared.graph_name.GraphName.{GraphName}
 use Rattle.graphs_dm.specs.declared.graph_name.GraphName.TheVariants as graph
 use Rattle.cmd_dm.specs.declared.command.Command.{Command}
-use Rattle.cmd_dm.specs.declared.command.Command.TheVariants.{Direct, Map, MapKeys, Check, Show, Consistent, Clean, Append, Invert, Rows}
+use Rattle.cmd_dm.specs.declared.command.Command.TheVariants.{Direct, Map, MapKeys, Check, Show, Consistent, Clean, Append, Invert, Rows, Translate, Ask}
 
 -- [empty-null]
 abbrev pub nulls_of : List (List ℕ) → Option NullMode
@@ -61,6 +63,20 @@ abbrev pub rows_of : List (List ℕ) → Option Command
 rows_of (folder ∷ query ∷ last) = option_map (λ nulls. Rows (chars folder) (chars query) nulls) (nulls_of last)
 rows_of words = None
 
+-- map or map-keys
+abbrev pub mode_of : List ℕ → Option Mode
+mode_of word = if bytes_eq word (codes "map") then Some modes.Map else if bytes_eq word (codes "map-keys") then Some modes.MapKeys else None
+
+-- MODE BASE FOLDER QUERY
+abbrev pub translate_of : List (List ℕ) → Option Command
+translate_of (word ∷ base ∷ folder ∷ query ∷ []) = option_map (λ mode. Translate mode (chars base) (chars folder) (chars query)) (mode_of word)
+translate_of words = None
+
+-- MODE BASE FOLDER GRAPH QUERY
+abbrev pub ask_of : List (List ℕ) → Option Command
+ask_of (word ∷ base ∷ folder ∷ name ∷ query ∷ []) = option_map (λ mode. Ask mode (chars base) (chars folder) (chars name) (chars query)) (mode_of word)
+ask_of words = None
+
 -- the command that words stand for: its name, and then exactly its words
 abbrev pub command_of : List (List ℕ) → Option Command
 command_of [] = None
@@ -73,5 +89,7 @@ command_of (name ∷ words) =
     if bytes_eq name (codes "append") then append_of words else
     if bytes_eq name (codes "invert") then invert_of words else
     if bytes_eq name (codes "rows") then rows_of words else
+    if bytes_eq name (codes "translate") then translate_of words else
+    if bytes_eq name (codes "ask") then ask_of words else
     if bytes_eq name (codes "show") then show_of words else
     if bytes_eq name (codes "consistent") then consistent_of words else None

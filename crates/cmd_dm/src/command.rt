@@ -1,3 +1,4 @@
+use algebra_dm::Mode;
 use value_dm::{NullMode, Text};
 
 /// A command with its words.
@@ -98,6 +99,39 @@ pub enum Command {
 
         /// `EmptyNull` where the word `empty-null` is given.
         nulls: NullMode,
+    },
+
+    /// Writes the pattern of a query over the tables of a folder as SPARQL text.
+    Translate {
+        /// Which graph the pattern is over: `Map` for the map graph, `MapKeys` for the map-keys graph.
+        mode: Mode,
+
+        /// What the graph's IRIs begin with.
+        base: Text,
+
+        /// The folder with `schema.sql`.
+        folder: Text,
+
+        /// The name of the file with the query's text.
+        query: Text,
+    },
+
+    /// Writes the solutions of a query's pattern over the triples of a file of N-Triples.
+    Ask {
+        /// Which graph the pattern is over: `Map` for the map graph, `MapKeys` for the map-keys graph.
+        mode: Mode,
+
+        /// What the graph's IRIs begin with.
+        base: Text,
+
+        /// The folder with `schema.sql`.
+        folder: Text,
+
+        /// The name of the file with the triples.
+        graph: Text,
+
+        /// The name of the file with the query's text.
+        query: Text,
     },
 
     /// Writes each triple of a file of N-Triples in its written form.

@@ -2,6 +2,7 @@
 #![tactic(auto)]
 
 mod append;
+mod ask;
 mod causes;
 mod check;
 mod clean;

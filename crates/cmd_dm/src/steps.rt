@@ -9,7 +9,7 @@ ghost use Rattle.keys_dm.specs.Violations.{KeepsKeys};
 ghost use Rattle.graphs_dm.specs.Graphs.{IsDefined};
 ghost use Rattle.cmd_dm.specs.Ending.{Step, PureStep};
 ghost use Rattle.cmd_dm.specs.Script.{load};
-ghost use Rattle.cmd_dm.specs.Steps.{base_step, database_step, folder_step, graph_step, kept_step, keys_step, rows_step, schema_step, tables_step, triples_step};
+ghost use Rattle.cmd_dm.specs.Steps.{base_step, database_step, declared_step, folder_step, graph_step, kept_step, keys_step, rows_step, schema_step, tables_step, triples_step};
 
 use crate::folder::{load_schema, load_table};
 use crate::reasons::{ddl_status, graph_status, key_status, table_status};
@@ -67,6 +67,19 @@ fn read_schema(alloc: Global, bytes: &Bytes) -> Result<Schema, Status>
         Ok(schema) => Ok(schema),
         Err(error) => Err(ddl_status(error)),
     }
+}
+
+/// Loads and reads a folder's schema as the next steps.
+#[tactic(auto, unfolding(crate::specs::Steps::declared_step))]
+pub(crate) fn read_declared<S: Shelf>(
+    alloc: Global,
+    folder: &Text,
+    shelf: &mut S,
+) -> Result<Schema, Status>
+    ensures { Step (declared_step folder.now) (S.state shelf.old) (S.state shelf.new) result }
+{
+    let bytes = load_schema(alloc, folder, shelf)?;
+    read_schema(alloc, &bytes)
 }
 
 /// Reads the rows of the table with this number, counted from 1, as the next step.

@@ -9,6 +9,7 @@ ghost use Rattle.cmd_dm.specs.Words.{command_of};
 ghost use Rattle.cmd_dm.specs.declared.status.File.{File};
 
 use crate::append::run_append;
+use crate::ask::{run_ask, run_translate};
 use crate::check::run_check;
 use crate::clean::run_clean;
 use crate::command::Command;
@@ -72,6 +73,19 @@ fn run_command<S: Shelf, K: Sink>(
             query,
             nulls,
         } => run_rows(alloc, folder, query, *nulls, shelf, out),
+        Command::Translate {
+            mode,
+            base,
+            folder,
+            query,
+        } => run_translate(alloc, *mode, base, folder, query, shelf, out),
+        Command::Ask {
+            mode,
+            base,
+            folder,
+            graph,
+            query,
+        } => run_ask(alloc, *mode, base, folder, graph, query, shelf, out),
         Command::Show { graph } => run_show(alloc, graph, shelf, out),
         Command::Consistent { graph } => run_consistent(alloc, graph, shelf, out),
     }

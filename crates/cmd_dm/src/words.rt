@@ -1,8 +1,10 @@
 ghost use Rattle.std.specs.Prelude.{◌≡◌, ◌↔◌, Some, None, IfOk, IfErr, IsErrOf, chars, map, string_bytes};
-ghost use Rattle.cmd_dm.specs.Words.{append_of, check_of, command_of, consistent_of, graph_command, graph_words, invert_of, nulls_of, rows_of, show_of, clean_of};
+ghost use Rattle.cmd_dm.specs.Words.{append_of, ask_of, check_of, command_of, consistent_of, graph_command, graph_words, invert_of, mode_of, nulls_of, rows_of, show_of, clean_of, translate_of};
+ghost use Rattle.cmd_dm.specs.declared.command.Command.TheVariants.{Ask};
 ghost use Rattle.cmd_dm.specs.declared.words.WordError.TheVariants.{Memory, Usage};
 
 use crate::command::Command;
+use algebra_dm::Mode;
 use graphs_dm::GraphName;
 use std::alloc::{AllocError, Global};
 use std::convert::From;
@@ -185,6 +187,82 @@ fn read_rows_words(alloc: Global, words: &[String]) -> Result<Command, WordError
     }
 }
 
+/// The mode of a word.
+fn read_mode(word: &String) -> Result<Mode, WordError>
+    ensures ok { IfOk result (λ mode. mode_of (string_bytes word.now) ≡ Some mode) }
+    ensures err { IfErr result (λ error. (error ≡ Usage) × (mode_of (string_bytes word.now) ≡ None)) }
+{
+    if word.as_str() == "map" {
+        Ok(Mode::Map)
+    } else if word.as_str() == "map-keys" {
+        Ok(Mode::MapKeys)
+    } else {
+        Err(WordError::Usage)
+    }
+}
+
+/// The words behind `translate`.
+fn read_translate(alloc: Global, words: &[String]) -> Result<Command, WordError>
+    ensures ok { IfOk result (λ command. translate_of (map string_bytes words.now) ≡ Some command) }
+    ensures usage { IsErrOf result WordError.Usage ↔ (translate_of (map string_bytes words.now) ≡ None) }
+{
+    match words {
+        [word, base, folder, query] => {
+            let mode = read_mode(word)?;
+            let base = text_of(alloc, base)?;
+            let folder = text_of(alloc, folder)?;
+            let query = text_of(alloc, query)?;
+            Ok(Command::Translate {
+                mode,
+                base,
+                folder,
+                query,
+            })
+        }
+        _ => Err(WordError::Usage),
+    }
+}
+
+/// The command that asks of these words.
+fn ask_command(
+    alloc: Global,
+    mode: Mode,
+    base: &String,
+    folder: &String,
+    graph: &String,
+    query: &String,
+) -> Result<Command, WordError>
+    ensures ok { IfOk result (λ command. command ≡
+        Ask mode (chars (string_bytes base.now)) (chars (string_bytes folder.now)) (chars (string_bytes graph.now)) (chars (string_bytes query.now))) }
+    ensures err { IfErr result (λ error. error ≡ Memory) }
+{
+    let base = text_of(alloc, base)?;
+    let folder = text_of(alloc, folder)?;
+    let graph = text_of(alloc, graph)?;
+    let query = text_of(alloc, query)?;
+    Ok(Command::Ask {
+        mode,
+        base,
+        folder,
+        graph,
+        query,
+    })
+}
+
+/// The words behind `ask`.
+fn read_ask(alloc: Global, words: &[String]) -> Result<Command, WordError>
+    ensures ok { IfOk result (λ command. ask_of (map string_bytes words.now) ≡ Some command) }
+    ensures usage { IsErrOf result WordError.Usage ↔ (ask_of (map string_bytes words.now) ≡ None) }
+{
+    match words {
+        [word, base, folder, graph, query] => {
+            let mode = read_mode(word)?;
+            ask_command(alloc, mode, base, folder, graph, query)
+        }
+        _ => Err(WordError::Usage),
+    }
+}
+
 /// The words behind `show`.
 fn read_show(alloc: Global, words: &[String]) -> Result<Command, WordError>
     ensures ok { IfOk result (λ command. show_of (map string_bytes words.now) ≡ Some command) }
@@ -236,6 +314,10 @@ pub fn read_words(alloc: Global, words: &[String]) -> Result<Command, WordError>
                 read_invert(alloc, rest)
             } else if name.as_str() == "rows" {
                 read_rows_words(alloc, rest)
+            } else if name.as_str() == "translate" {
+                read_translate(alloc, rest)
+            } else if name.as_str() == "ask" {
+                read_ask(alloc, rest)
             } else if name.as_str() == "show" {
                 read_show(alloc, rest)
             } else if name.as_str() == "consistent" {

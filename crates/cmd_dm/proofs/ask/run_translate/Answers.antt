@@ -1,0 +1,34 @@
+use Rattle.std.proofs.Common.{string_bytes}
+use Rattle.std.proofs.lemmas.Result.{err_from_is_err_and}
+use Rattle.cmd_dm.specs.Questions.{pattern_of}
+use Rattle.cmd_dm.specs.Script.{write, text_work}
+use Rattle.cmd_dm.proofs.Endings.{ends_after, ends_memory, ends_writes, leads_ask}
+use Rattle.cmd_dm.proofs.ask.run_translate.Goals as goal
+
+pub returns-in_err-base : goal.returns-in_err-base
+returns-in_err-base g c =
+    let error = err_from_is_err_and c.from_residual.result c.from_residual.ensures.1 in
+    rw (error.1, error.2) (c.in_err-base.ensures _ _ _ _)
+
+pub returns-in_err-schema : goal.returns-in_err-schema
+returns-in_err-schema g c =
+    let error = err_from_is_err_and c.from_residual-in_err-schema.result c.from_residual-in_err-schema.ensures.1 in
+    rw (error.1, error.2) (ends_after (c.in_ok-base.ensures _ _) (c.in_err-schema.ensures _ _ _))
+
+pub returns-in_err-query : goal.returns-in_err-query
+returns-in_err-query g c =
+    let error = err_from_is_err_and c.from_residual-in_err-query.result c.from_residual-in_err-query.ensures.1 in
+    rw (error.1, error.2) (ends_after (c.in_ok-base.ensures _ _) (ends_after (c.in_ok-schema.ensures _) (c.in_err-query.ensures.step _ _ _)))
+
+pub returns-in_err-text : goal.returns-in_err-text
+returns-in_err-text g c =
+    let error = err_from_is_err_and c.from_residual-in_err-text.result c.from_residual-in_err-text.ensures.1 in
+    rw (error.1, error.2) (ends_after (c.in_ok-base.ensures _ _) (ends_after (c.in_ok-schema.ensures _) (ends_after (c.in_ok-query.ensures.step _) (ends_memory _ _ _ _))))
+
+pub returns : goal.returns
+returns g c =
+    let text = string_bytes c.in_ok-text.text in
+    let question = pattern_of c.args.mode c.in_ok-base.base c.in_ok-schema.schema c.in_ok-query.query in
+    ends_after (c.in_ok-base.ensures _ _) (ends_after (c.in_ok-schema.ensures _) (ends_after (c.in_ok-query.ensures.step _)
+    (ends_after (leads_ask question text (λ text. write (text_work text)) _ c.in_ok-text.ensures)
+    (rw c.end_of_puts.ensures (rw c.as_bytes.ensures.value at (ends_writes c.as_bytes.result.now (g.S.Shelf.state c.load_query.new.shelf) c.put.result (record { puts = c.put.ensures.puts; kept = c.put.ensures.kept })))))))
