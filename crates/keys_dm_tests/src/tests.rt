@@ -1,192 +1,214 @@
+use ddl_dm::read_ddl;
 use keys_dm::{ViolationList, holds_all, violations};
-use schema_dm::{
-    Column, Columns, Drafts, ForeignDraft, ForeignDrafts, NameLists, Schema, TableDraft,
-};
-use std::alloc::{AllocError, Global};
+use schema_dm::Schema;
+use std::alloc::Global;
 use std::test::Fail;
-use table_csv::{Database, Rows, RowsList};
-use value_dm::{Cell, Cells, Kind, Names, Text, TryCopy, read_lexical};
+use table_csv::{Database, Rows, RowsList, read_table};
+use value_dm::{NullMode, TryCopy};
 
-// Tables are written `NAME COLUMN.. KEY..`, with `;` between. A column is `x` or `x=text`; `!a,b` is a
-// primary key, `?a,b` a unique one, `>a,b:T` and `>a,b:T:c,d` are foreign keys. Rows are written with
-// `,` between cells, a space between rows and `;` between tables; `-` is NULL.
-
-fn names_of(alloc: Global, text: &str) -> Result<Names, AllocError> {
-    let mut names = Names::new(alloc);
-    for name in text.split(',') {
-        names.push(Text::from_str(alloc, name)?)?;
-    }
-    Ok(names)
+fn schema(alloc: Global, statements: &str) -> Option<Schema> {
+    read_ddl(alloc, statements.as_bytes()).ok()
 }
 
-fn column_of(alloc: Global, text: &str) -> Result<Column, AllocError> {
-    let (name, kind) = match text.strip_suffix("=text") {
-        None => (text, Kind::Integer),
-        Some(name) => (name, Kind::Text),
-    };
-    Ok(Column {
-        name: Text::from_str(alloc, name)?,
-        kind,
-        not_null: false,
-    })
-}
-
-fn foreign_of(alloc: Global, text: &str) -> Result<ForeignDraft, AllocError> {
-    let mut parts = text.split(':');
-    let columns = names_of(alloc, parts.next().unwrap_or(""))?;
-    let target = Text::from_str(alloc, parts.next().unwrap_or(""))?;
-    let target_columns = match parts.next() {
+fn table_rows(alloc: Global, schema: &Schema, t: usize, file: &str) -> Option<Rows> {
+    match schema.tables().get(t) {
+        Some(table) => read_table(alloc, table, file.as_bytes(), NullMode::Plain).ok(),
         None => None,
-        Some(names) => Some(names_of(alloc, names)?),
-    };
-    Ok(ForeignDraft {
-        columns,
-        target,
-        target_columns,
-    })
-}
-
-fn draft_of(alloc: Global, text: &str) -> Result<TableDraft, AllocError> {
-    let mut columns = Columns::new(alloc);
-    let mut primaries = NameLists::new(alloc);
-    let mut uniques = NameLists::new(alloc);
-    let mut foreign = ForeignDrafts::new(alloc);
-    let mut words = text.split(' ');
-    let name = Text::from_str(alloc, words.next().unwrap_or(""))?;
-    for word in words {
-        if let Some(key) = word.strip_prefix('!') {
-            primaries.push(names_of(alloc, key)?)?;
-        } else if let Some(key) = word.strip_prefix('?') {
-            uniques.push(names_of(alloc, key)?)?;
-        } else if let Some(key) = word.strip_prefix('>') {
-            foreign.push(foreign_of(alloc, key)?)?;
-        } else {
-            columns.push(column_of(alloc, word)?)?;
-        }
-    }
-    Ok(TableDraft {
-        name,
-        columns,
-        primaries,
-        uniques,
-        foreign,
-    })
-}
-
-fn drafts_of(alloc: Global, text: &str) -> Result<Drafts, AllocError> {
-    let mut drafts = Drafts::new(alloc);
-    for table in text.split(';') {
-        drafts.push(draft_of(alloc, table)?)?;
-    }
-    Ok(drafts)
-}
-
-fn schema_of(alloc: Global, text: &str) -> Result<Schema, Fail> {
-    match Schema::new(alloc, drafts_of(alloc, text)?) {
-        Ok(schema) => Ok(schema),
-        Err(_) => Err("a schema".into()),
     }
 }
 
-// A text that is no value fails the test as want of memory does.
-fn cell_of(alloc: Global, kind: Kind, text: &str) -> Result<Cell, AllocError> {
-    if text == "-" {
-        return Ok(None);
-    }
-    match read_lexical(alloc, kind, text) {
-        Ok(value) => Ok(Some(value)),
-        Err(_) => Err(AllocError),
-    }
-}
-
-fn row_of(alloc: Global, columns: &[Column], text: &str) -> Result<Cells, AllocError> {
-    let mut cells = Cells::new(alloc);
-    for (column, cell) in columns.iter().zip(text.split(',')) {
-        cells.push(cell_of(alloc, column.kind, cell)?)?;
-    }
-    Ok(cells)
-}
-
-fn rows_of(alloc: Global, columns: &[Column], text: &str) -> Result<Rows, AllocError> {
-    let mut rows = Rows::new(alloc);
-    if text.is_empty() {
-        return Ok(rows);
-    }
-    for row in text.split(' ') {
-        rows.push(row_of(alloc, columns, row)?)?;
-    }
-    Ok(rows)
-}
-
-fn lists_of(alloc: Global, schema: &Schema, text: &str) -> Result<RowsList, AllocError> {
+fn lists(alloc: Global, schema: &Schema, files: &str) -> Option<RowsList> {
     let mut lists = RowsList::new(alloc);
-    for (table, rows) in schema.tables().iter().zip(text.split(';')) {
-        lists.push(rows_of(alloc, table.columns.as_slice(), rows)?)?;
+    for (t, file) in files.split(';').enumerate() {
+        lists.push(table_rows(alloc, schema, t, file)?).ok()?;
     }
-    Ok(lists)
+    Some(lists)
 }
 
-fn database_of(alloc: Global, tables: &str, rows: &str) -> Result<Database, Fail> {
-    let schema = schema_of(alloc, tables)?;
-    let lists = lists_of(alloc, &schema, rows)?;
-    Ok(Database::new(schema, lists).ok_or("a database")?)
+fn joined(schema: Schema, lists: RowsList) -> Option<Database> {
+    Database::new(schema, lists)
 }
 
-fn listed(alloc: Global, database: &Database) -> Result<ViolationList, AllocError> {
-    violations(alloc, database)
+fn database(alloc: Global, statements: &str, files: &str) -> Option<Database> {
+    let schema = schema(alloc, statements)?;
+    let lists = lists(alloc, &schema, files)?;
+    joined(schema, lists)
 }
 
-fn holds(alloc: Global, database: &Database) -> Result<bool, AllocError> {
-    holds_all(alloc, database)
+fn listed(alloc: Global, database: &Database) -> Option<ViolationList> {
+    violations(alloc, database).ok()
 }
 
-fn shown(alloc: Global, found: &ViolationList) -> Result<String, AllocError> {
-    let mut text = String::new(alloc);
+fn holds(alloc: Global, database: &Database) -> Option<bool> {
+    holds_all(alloc, database).ok()
+}
+
+fn push_violations(alloc: Global, text: &mut String, found: &ViolationList) -> Option<()> {
     for violation in found.as_slice() {
         let (table, row, kind) = (violation.table, violation.row, violation.kind);
-        text.push_str(format!(in alloc; "{table} {row} {kind:?};")?.as_str())?;
+        let piece = format!(in alloc; "{table} {row} {kind:?};").ok()?;
+        text.push_str(piece.as_str()).ok()?;
     }
-    Ok(text)
+    Some(())
 }
 
-// Tables, their rows, and their violations by table, row and kind.
-fn databases() -> &'static str {
-    "A x|1 1|kept
-D id v=text !id|1,x 1,y|1 1 RepeatedKey;1 2 RepeatedKey;
-P a b !a,b;Q x y >x,y:P|1,1;2,3 2,-|2 1 Dangling(1);
-P a !a;Q x >x:P|;|kept
-E id boss !id >boss:E|1,2 2,1 3,-|kept
-E id boss !id >boss:E|1,2 2,3|1 2 Dangling(1);
-N a b !a,b|1,- -,- 1,- 1,1|1 1 NullKey;1 2 NullKey;1 3 NullKey;
-U id mail=text !id ?mail|1,a 2,a 3,- 4,-|1 1 RepeatedUnique(1);1 2 RepeatedUnique(1);
-V a !a ?a|1 1|1 1 RepeatedKey;1 1 RepeatedUnique(1);1 2 RepeatedKey;1 2 RepeatedUnique(1);
-U a b ?a,b|1,- 1,2 1,- 2,1 1,2|1 2 RepeatedUnique(1);1 5 RepeatedUnique(1);
-A x y >x,y:B:d,c;B c d ?c,d|2,1 1,2;1,2|1 2 Dangling(1);
-T a b c ?b ?a >c:T:a >a:K;K k !k|1,1,2 1,1,1;7|1 1 RepeatedUnique(1);1 1 RepeatedUnique(2);1 1 Dangling(1);1 1 Dangling(2);1 2 RepeatedUnique(1);1 2 RepeatedUnique(2);1 2 Dangling(2);
-A x !x;B x >x:A|3 2 3;1 2|1 1 RepeatedKey;1 3 RepeatedKey;2 1 Dangling(1);"
+fn is_copied(alloc: Global, found: &ViolationList) -> bool {
+    match found.copy(alloc) {
+        Ok(copy) => copy == *found,
+        Err(_) => false,
+    }
 }
 
-// The violations of a database, and whether its keys are kept.
-fn told(alloc: Global, tables: &str, rows: &str) -> Result<String, Fail> {
-    let database = database_of(alloc, tables, rows)?;
-    let found = listed(alloc, &database)?;
-    let mut text = shown(alloc, &found)?;
-    if holds(alloc, &database)? {
-        text.push_str("kept")?;
+// The violations, and whether the keys are kept.
+fn text_of(alloc: Global, found: &ViolationList, kept: bool) -> Option<String> {
+    let mut text = String::new(alloc);
+    push_violations(alloc, &mut text, found)?;
+    if kept {
+        text.push_str("kept").ok()?;
     }
-    if found.copy(alloc)? != found {
-        text.push_str("copied amiss")?;
+    if !is_copied(alloc, found) {
+        text.push_str("copied amiss").ok()?;
     }
-    Ok(text)
+    Some(text)
+}
+
+fn told(alloc: Global, database: &Database) -> Option<String> {
+    let kept = holds(alloc, database)?;
+    let found = listed(alloc, database)?;
+    text_of(alloc, &found, kept)
+}
+
+// The statements of the tables, a file of each with `;` between, and the violations by table, row and kind.
+const DATABASES: [(&str, &str, &str); 13] = [
+    (
+        "CREATE TABLE A (x INT);",
+        "x
+1
+1",
+        "kept",
+    ),
+    (
+        "CREATE TABLE D (id INT, v TEXT, PRIMARY KEY (id));",
+        "id,v
+1,x
+1,y",
+        "1 1 RepeatedKey;1 2 RepeatedKey;",
+    ),
+    (
+        "CREATE TABLE P (a INT, b INT, PRIMARY KEY (a,b));
+CREATE TABLE Q (x INT, y INT, FOREIGN KEY (x,y) REFERENCES P);",
+        "a,b
+1,1;x,y
+2,3
+2,",
+        "2 1 Dangling(1);",
+    ),
+    (
+        "CREATE TABLE P (a INT, PRIMARY KEY (a));
+CREATE TABLE Q (x INT, FOREIGN KEY (x) REFERENCES P);",
+        "a;x",
+        "kept",
+    ),
+    (
+        "CREATE TABLE E (id INT, boss INT, PRIMARY KEY (id), FOREIGN KEY (boss) REFERENCES E);",
+        "id,boss
+1,2
+2,1
+3,",
+        "kept",
+    ),
+    (
+        "CREATE TABLE E (id INT, boss INT, PRIMARY KEY (id), FOREIGN KEY (boss) REFERENCES E);",
+        "id,boss
+1,2
+2,3",
+        "1 2 Dangling(1);",
+    ),
+    (
+        "CREATE TABLE N (a INT, b INT, PRIMARY KEY (a,b));",
+        "a,b
+1,
+,
+1,
+1,1",
+        "1 1 NullKey;1 2 NullKey;1 3 NullKey;",
+    ),
+    (
+        "CREATE TABLE U (id INT, mail TEXT, PRIMARY KEY (id), UNIQUE (mail));",
+        "id,mail
+1,a
+2,a
+3,\\N
+4,\\N",
+        "1 1 RepeatedUnique(1);1 2 RepeatedUnique(1);",
+    ),
+    (
+        "CREATE TABLE V (a INT, PRIMARY KEY (a), UNIQUE (a));",
+        "a
+1
+1",
+        "1 1 RepeatedKey;1 1 RepeatedUnique(1);1 2 RepeatedKey;1 2 RepeatedUnique(1);",
+    ),
+    (
+        "CREATE TABLE U (a INT, b INT, UNIQUE (a,b));",
+        "a,b
+1,
+1,2
+1,
+2,1
+1,2",
+        "1 2 RepeatedUnique(1);1 5 RepeatedUnique(1);",
+    ),
+    (
+        "CREATE TABLE A (x INT, y INT, FOREIGN KEY (x,y) REFERENCES B (d,c));
+CREATE TABLE B (c INT, d INT, UNIQUE (c,d));",
+        "x,y
+2,1
+1,2;c,d
+1,2",
+        "1 2 Dangling(1);",
+    ),
+    (
+        "CREATE TABLE T (a INT, b INT, c INT, UNIQUE (b), UNIQUE (a), FOREIGN KEY (c) REFERENCES T (a), FOREIGN KEY (a) REFERENCES K);
+CREATE TABLE K (k INT, PRIMARY KEY (k));",
+        "a,b,c
+1,1,2
+1,1,1;k
+7",
+        "1 1 RepeatedUnique(1);1 1 RepeatedUnique(2);1 1 Dangling(1);1 1 Dangling(2);1 2 RepeatedUnique(1);1 2 RepeatedUnique(2);1 2 Dangling(2);",
+    ),
+    (
+        "CREATE TABLE A (x INT, PRIMARY KEY (x));
+CREATE TABLE B (x INT, FOREIGN KEY (x) REFERENCES A);",
+        "x
+3
+2
+3;x
+1
+2",
+        "1 1 RepeatedKey;1 3 RepeatedKey;2 1 Dangling(1);",
+    ),
+];
+
+fn is_told(alloc: Global, database: &Database, expected: &str) -> bool {
+    match told(alloc, database) {
+        Some(text) => text.as_str() == expected,
+        None => false,
+    }
+}
+
+fn is_case(alloc: Global, statements: &str, files: &str, expected: &str) -> bool {
+    match database(alloc, statements, files) {
+        Some(database) => is_told(alloc, &database, expected),
+        None => false,
+    }
 }
 
 #[test]
 fn violations_are_listed(rt: HostRuntime) -> Result<(), Fail> {
-    let alloc = rt.alloc();
-    for line in databases().lines() {
-        let (tables, rest) = line.split_once('|').ok_or("no rows")?;
-        let (rows, want) = rest.split_once('|').ok_or("no violations")?;
-        assert_eq!(rt; told(alloc, tables, rows)?.as_str(), want, "at {line}");
+    for (statements, files, expected) in DATABASES {
+        let found = is_case(rt.alloc(), statements, files, expected);
+        assert!(rt; found, "{statements} {files}");
     }
     Ok(())
 }
