@@ -1,27 +1,35 @@
-use algebra_dm::{Query, QueryError};
+use algebra_dm::QueryError;
 use ddl_dm::read_ddl;
 use query_text_dm::read_query;
 use schema_dm::Schema;
 use std::alloc::Global;
 use std::test::Fail;
 
-fn schema(alloc: Global, text: &str) -> Result<Schema, Fail> {
-    match read_ddl(alloc, text.as_bytes()) {
-        Ok(schema) => Ok(schema),
-        Err(_) => Err("no schema".into()),
+fn schema(alloc: Global, statements: &str) -> Option<Schema> {
+    read_ddl(alloc, statements.as_bytes()).ok()
+}
+
+fn fault(alloc: Global, schema: &Schema, bytes: &[u8]) -> Option<QueryError> {
+    read_query(alloc, schema, bytes).err()
+}
+
+// The fault of a text over these tables, or `a query`.
+fn told(alloc: Global, statements: &str, bytes: &[u8]) -> Option<String> {
+    let schema = schema(alloc, statements)?;
+    match fault(alloc, &schema, bytes) {
+        None => String::from_str(alloc, "a query").ok(),
+        Some(error) => format!(in alloc; "{error:?}").ok(),
     }
 }
 
-fn read(alloc: Global, schema: &Schema, bytes: &[u8]) -> Result<Query, QueryError> {
-    read_query(alloc, schema, bytes)
-}
-
-fn told(alloc: Global, schema: &Schema, bytes: &[u8]) -> Result<String, Fail> {
-    match read(alloc, schema, bytes) {
-        Ok(_) => Ok(format!(in alloc; "a query")?),
-        Err(error) => Ok(format!(in alloc; "{error:?}")?),
+fn is_told(alloc: Global, statements: &str, bytes: &[u8], expected: &str) -> bool {
+    match told(alloc, statements, bytes) {
+        Some(found) => found.as_str() == expected,
+        None => false,
     }
 }
+
+const ONE: &str = "CREATE TABLE T (a INT);";
 
 // Over a table T with one column a of integers.
 const TEXTS: [(&str, &str); 32] = [
@@ -59,88 +67,89 @@ const TEXTS: [(&str, &str); 32] = [
     ("(diff (table T) (join (table T) (table T)))", "a query"),
 ];
 
-#[test]
-fn texts(rt: HostRuntime) -> Result<(), Fail> {
-    let alloc = rt.alloc();
-    let schema = schema(alloc, "CREATE TABLE T (a INT);")?;
-    for (text, expected) in TEXTS {
-        let found = told(alloc, &schema, text.as_bytes())?;
-        assert_eq!(rt; found.as_str(), expected, "{text}");
-    }
-    Ok(())
-}
+// So many times `(notnull `, and what stands behind them.
+const DEEP: [(usize, &str, &str); 4] = [
+    (65, "", "TooDeep(577)"),
+    (64, "", "BadQuery(577)"),
+    (63, "(table (", "TooDeep(575)"),
+    (63, "(table T", "BadQuery(576)"),
+];
 
-// The piece so many times, and what stands behind them.
-fn repeated(alloc: Global, count: usize, end: &str) -> Result<String, Fail> {
+fn repeated(alloc: Global, count: usize, end: &str) -> Option<String> {
     let mut text = String::new(alloc);
     for _ in 0..count {
-        text.push_str("(notnull ")?;
+        text.push_str("(notnull ").ok()?;
     }
-    text.push_str(end)?;
-    Ok(text)
+    text.push_str(end).ok()?;
+    Some(text)
 }
 
-fn deep(alloc: Global, schema: &Schema, count: usize, end: &str) -> Result<String, Fail> {
-    let text = repeated(alloc, count, end)?;
-    told(alloc, schema, text.as_bytes())
-}
-
-#[test]
-fn open_parentheses(rt: HostRuntime) -> Result<(), Fail> {
-    let alloc = rt.alloc();
-    let schema = schema(alloc, "CREATE TABLE T (a INT);")?;
-    for (count, end, expected) in [
-        (65, "", "TooDeep(577)"),
-        (64, "", "BadQuery(577)"),
-        (63, "(table (", "TooDeep(575)"),
-        (63, "(table T", "BadQuery(576)"),
-    ] {
-        let found = deep(alloc, &schema, count, end)?;
-        assert_eq!(rt; found.as_str(), expected, "{count} and {end}");
+fn is_deep(alloc: Global, count: usize, end: &str, expected: &str) -> bool {
+    match repeated(alloc, count, end) {
+        Some(text) => is_told(alloc, ONE, text.as_bytes(), expected),
+        None => false,
     }
-    Ok(())
 }
 
-#[test]
-fn bytes(rt: HostRuntime) -> Result<(), Fail> {
-    let alloc = rt.alloc();
-    let schema = schema(alloc, "CREATE TABLE T (a INT);")?;
-    let quoted = told(alloc, &schema, b"(null \"\xff\")")?;
-    assert_eq!(rt; quoted.as_str(), "BadQuery(7)");
-    let behind = told(alloc, &schema, b"(table T)\xff")?;
-    assert_eq!(rt; behind.as_str(), "BadQuery(10)");
-    Ok(())
-}
-
-fn push_columns(alloc: Global, text: &mut String, table: usize) -> Result<(), Fail> {
+fn push_columns(alloc: Global, text: &mut String, table: usize) -> Option<()> {
     for column in 0..205 {
-        let piece = format!(in alloc; ", c{table}_{column} INT")?;
-        text.push_str(piece.as_str())?;
+        let piece = format!(in alloc; ", c{table}_{column} INT").ok()?;
+        text.push_str(piece.as_str()).ok()?;
     }
-    Ok(())
+    Some(())
 }
 
-fn wide_schema(alloc: Global) -> Result<String, Fail> {
+fn push_table(alloc: Global, text: &mut String, table: usize) -> Option<()> {
+    let head = format!(in alloc; "CREATE TABLE T{table} (d{table} INT").ok()?;
+    text.push_str(head.as_str()).ok()?;
+    push_columns(alloc, text, table)?;
+    text.push_str(");").ok()
+}
+
+// Five tables of 206 columns each.
+fn wide(alloc: Global) -> Option<String> {
     let mut text = String::new(alloc);
     for table in 0..5 {
-        let head = format!(in alloc; "CREATE TABLE T{table} (d{table} INT")?;
-        text.push_str(head.as_str())?;
-        push_columns(alloc, &mut text, table)?;
-        text.push_str(");")?;
+        push_table(alloc, &mut text, table)?;
     }
-    Ok(text)
+    Some(text)
 }
 
-// Five tables of 206 columns each are too wide, and four aren't.
+fn is_wide(alloc: Global, query: &str, expected: &str) -> bool {
+    match wide(alloc) {
+        Some(tables) => is_told(alloc, tables.as_str(), query.as_bytes(), expected),
+        None => false,
+    }
+}
+
+// Joins of four of the tables, and of all five, which are too wide.
+const WIDE: [(&str, &str); 2] = [
+    (
+        "(join (table T0) (join (table T1) (join (table T2) (table T3))))",
+        "a query",
+    ),
+    (
+        "(join (table T4) (join (table T0) (join (table T1) (join (table T2) (table T3)))))",
+        "TooWide",
+    ),
+];
+
 #[test]
-fn wide(rt: HostRuntime) -> Result<(), Fail> {
-    let alloc = rt.alloc();
-    let schema = schema(alloc, wide_schema(alloc)?.as_str())?;
-    let four = "(join (table T0) (join (table T1) (join (table T2) (table T3))))";
-    let found = told(alloc, &schema, four.as_bytes())?;
-    assert_eq!(rt; found.as_str(), "a query");
-    let five = "(join (table T4) (join (table T0) (join (table T1) (join (table T2) (table T3)))))";
-    let found = told(alloc, &schema, five.as_bytes())?;
-    assert_eq!(rt; found.as_str(), "TooWide");
+fn texts(rt: HostRuntime) -> Result<(), Fail> {
+    for (text, expected) in TEXTS {
+        let found = is_told(rt.alloc(), ONE, text.as_bytes(), expected);
+        assert!(rt; found, "{text}");
+    }
+    for (count, end, expected) in DEEP {
+        let found = is_deep(rt.alloc(), count, end, expected);
+        assert!(rt; found, "{count} and {end}");
+    }
+    for (query, expected) in WIDE {
+        let found = is_wide(rt.alloc(), query, expected);
+        assert!(rt; found, "{query}");
+    }
+    let quoted = is_told(rt.alloc(), ONE, b"(null \"\xff\")", "BadQuery(7)");
+    let behind = is_told(rt.alloc(), ONE, b"(table T)\xff", "BadQuery(10)");
+    assert!(rt; quoted & behind);
     Ok(())
 }
