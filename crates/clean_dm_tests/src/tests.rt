@@ -1,194 +1,206 @@
 use clean_dm::{Removal, Removals, check_removals, clean, kept};
+use ddl_dm::read_ddl;
 use keys_dm::ViolationKind;
-use schema_dm::{
-    Column, Columns, Drafts, ForeignDraft, ForeignDrafts, NameLists, Schema, TableDraft,
-};
-use std::alloc::{AllocError, Global};
+use schema_dm::Schema;
+use std::alloc::Global;
 use std::test::Fail;
-use table_csv::{Database, Rows, RowsList};
-use value_dm::{Cell, Cells, Kind, Names, Text, lexical, read_lexical};
+use table_csv::{Database, Rows, RowsList, read_table};
+use value_dm::NullMode;
 
-// Tables are written `NAME COLUMN.. KEY..`, with `;` between. All columns are integers. `!a` is a primary
-// key, `?a` a unique one, `>a:T` a foreign key onto the primary key of T. Rows are written with `,`
-// between cells, a space between rows and `;` between tables; `-` is NULL.
-
-fn name_of(alloc: Global, text: &str) -> Result<Names, AllocError> {
-    let mut names = Names::new(alloc);
-    names.push(Text::from_str(alloc, text)?)?;
-    Ok(names)
+fn schema(alloc: Global, statements: &str) -> Option<Schema> {
+    read_ddl(alloc, statements.as_bytes()).ok()
 }
 
-fn draft_of(alloc: Global, text: &str) -> Result<TableDraft, AllocError> {
-    let mut columns = Columns::new(alloc);
-    let mut primaries = NameLists::new(alloc);
-    let mut uniques = NameLists::new(alloc);
-    let mut foreign = ForeignDrafts::new(alloc);
-    let mut words = text.split(' ');
-    let name = Text::from_str(alloc, words.next().unwrap_or(""))?;
-    for word in words {
-        if let Some(key) = word.strip_prefix('!') {
-            primaries.push(name_of(alloc, key)?)?;
-        } else if let Some(key) = word.strip_prefix('?') {
-            uniques.push(name_of(alloc, key)?)?;
-        } else if let Some((_, key)) = word.split_once('>') {
-            let (column, target) = key.split_once(':').unwrap_or((key, ""));
-            foreign.push(ForeignDraft {
-                columns: name_of(alloc, column)?,
-                target: Text::from_str(alloc, target)?,
-                target_columns: None,
-            })?;
-        } else {
-            columns.push(Column {
-                name: Text::from_str(alloc, word)?,
-                kind: Kind::Integer,
-                not_null: false,
-            })?;
-        }
-    }
-    Ok(TableDraft {
-        name,
-        columns,
-        primaries,
-        uniques,
-        foreign,
-    })
-}
-
-fn drafts_of(alloc: Global, text: &str) -> Result<Drafts, AllocError> {
-    let mut drafts = Drafts::new(alloc);
-    for table in text.split(';') {
-        drafts.push(draft_of(alloc, table)?)?;
-    }
-    Ok(drafts)
-}
-
-fn schema_of(alloc: Global, text: &str) -> Result<Schema, Fail> {
-    match Schema::new(alloc, drafts_of(alloc, text)?) {
-        Ok(schema) => Ok(schema),
-        Err(_) => Err("a schema".into()),
+fn table_rows(alloc: Global, schema: &Schema, t: usize, file: &str) -> Option<Rows> {
+    match schema.tables().get(t) {
+        Some(table) => read_table(alloc, table, file.as_bytes(), NullMode::Plain).ok(),
+        None => None,
     }
 }
 
-// A text that is no integer fails the test as want of memory does.
-fn cell_of(alloc: Global, text: &str) -> Result<Cell, AllocError> {
-    if text == "-" {
-        return Ok(None);
-    }
-    match read_lexical(alloc, Kind::Integer, text) {
-        Ok(value) => Ok(Some(value)),
-        Err(_) => Err(AllocError),
-    }
-}
-
-fn row_of(alloc: Global, text: &str) -> Result<Cells, AllocError> {
-    let mut cells = Cells::new(alloc);
-    for cell in text.split(',') {
-        cells.push(cell_of(alloc, cell)?)?;
-    }
-    Ok(cells)
-}
-
-fn rows_of(alloc: Global, text: &str) -> Result<Rows, AllocError> {
-    let mut rows = Rows::new(alloc);
-    for row in text.split(' ').filter(|row| !row.is_empty()) {
-        rows.push(row_of(alloc, row)?)?;
-    }
-    Ok(rows)
-}
-
-fn lists_of(alloc: Global, text: &str) -> Result<RowsList, AllocError> {
+fn lists(alloc: Global, schema: &Schema, files: &str) -> Option<RowsList> {
     let mut lists = RowsList::new(alloc);
-    for rows in text.split(';') {
-        lists.push(rows_of(alloc, rows)?)?;
+    for (t, file) in files.split(';').enumerate() {
+        lists.push(table_rows(alloc, schema, t, file)?).ok()?;
     }
-    Ok(lists)
+    Some(lists)
 }
 
-fn database_of(alloc: Global, tables: &str, rows: &str) -> Result<Database, Fail> {
-    let schema = schema_of(alloc, tables)?;
-    let lists = lists_of(alloc, rows)?;
-    Ok(Database::new(schema, lists).ok_or("a database")?)
+fn joined(schema: Schema, lists: RowsList) -> Option<Database> {
+    Database::new(schema, lists)
 }
 
-fn shown(alloc: Global, removals: &Removals) -> Result<String, AllocError> {
+fn database(alloc: Global, statements: &str, files: &str) -> Option<Database> {
+    let schema = schema(alloc, statements)?;
+    let lists = lists(alloc, &schema, files)?;
+    joined(schema, lists)
+}
+
+// The statements of the tables, a file of each with `;` between, the removals by table, row and kind, and the files of the
+// rows that are left.
+const DATABASES: [(&str, &str, &str, &str); 8] = [
+    (
+        "CREATE TABLE E (id INT, boss INT, PRIMARY KEY (id), FOREIGN KEY (boss) REFERENCES E);",
+        "id,boss
+1,
+2,1
+3,9
+4,3
+5,5
+6,7
+7,6",
+        "1 3 Dangling(1);1 4 Dangling(1);",
+        "id,boss
+1,
+2,1
+5,5
+6,7
+7,6",
+    ),
+    (
+        "CREATE TABLE D (id INT, v INT, PRIMARY KEY (id));",
+        "id,v
+1,8
+1,9",
+        "1 1 RepeatedKey;1 2 RepeatedKey;",
+        "id,v",
+    ),
+    (
+        "CREATE TABLE A (b INT, FOREIGN KEY (b) REFERENCES B);
+CREATE TABLE B (id INT, c INT, PRIMARY KEY (id), FOREIGN KEY (c) REFERENCES C);
+CREATE TABLE C (id INT, PRIMARY KEY (id));",
+        "b
+1;id,c
+1,7
+2,8;id",
+        "2 1 Dangling(1);1 1 Dangling(1);2 2 Dangling(1);",
+        "b;id,c;id",
+    ),
+    (
+        "CREATE TABLE A (b INT, FOREIGN KEY (b) REFERENCES B);
+CREATE TABLE B (id INT, PRIMARY KEY (id), UNIQUE (id));",
+        "b
+1
+2
+3;id
+1
+1
+2",
+        "2 1 RepeatedKey;2 2 RepeatedKey;1 1 Dangling(1);1 3 Dangling(1);",
+        "b
+2;id
+2",
+    ),
+    (
+        "CREATE TABLE V (a INT, b INT, PRIMARY KEY (a), UNIQUE (b));",
+        "a,b
+1,5
+2,6
+1,6
+3,7
+,8",
+        "1 1 RepeatedKey;1 2 RepeatedUnique(1);1 3 RepeatedKey;1 5 NullKey;",
+        "a,b
+3,7",
+    ),
+    (
+        "CREATE TABLE T (a INT, b INT, c INT, PRIMARY KEY (a), FOREIGN KEY (b) REFERENCES T, FOREIGN KEY (c) REFERENCES T);",
+        "a,b,c
+1,1,9
+2,2,2
+3,8,9
+4,1,4",
+        "1 1 Dangling(2);1 3 Dangling(1);1 4 Dangling(1);",
+        "a,b,c
+2,2,2",
+    ),
+    (
+        "CREATE TABLE E (id INT, boss INT, PRIMARY KEY (id), FOREIGN KEY (boss) REFERENCES E);",
+        "id,boss
+1,2
+2,3
+3,4
+4,5",
+        "1 4 Dangling(1);1 3 Dangling(1);1 2 Dangling(1);1 1 Dangling(1);",
+        "id,boss",
+    ),
+    (
+        "CREATE TABLE E (id INT, boss INT, PRIMARY KEY (id), FOREIGN KEY (boss) REFERENCES E);",
+        "id,boss
+1,2
+2,1",
+        "",
+        "id,boss
+1,2
+2,1",
+    ),
+];
+
+fn removals_text(alloc: Global, removals: &Removals) -> Option<String> {
     let mut text = String::new(alloc);
     for removal in removals.as_slice() {
         let (table, row, kind) = (removal.table, removal.row, removal.kind);
-        text.push_str(format!(in alloc; "{table} {row} {kind:?};")?.as_str())?;
+        let piece = format!(in alloc; "{table} {row} {kind:?};").ok()?;
+        text.push_str(piece.as_str()).ok()?;
     }
-    Ok(text)
+    Some(text)
 }
 
-// Tables, their rows, the removals by table, row and kind, and the rows that are left.
-fn databases() -> &'static str {
-    "E id boss !id >boss:E|1,- 2,1 3,9 4,3 5,5 6,7 7,6|1 3 Dangling(1);1 4 Dangling(1);|1,- 2,1 5,5 6,7 7,6
-D id v !id|1,8 1,9|1 1 RepeatedKey;1 2 RepeatedKey;|
-A b >b:B;B id c !id >c:C;C id !id|1;1,7 2,8;|2 1 Dangling(1);1 1 Dangling(1);2 2 Dangling(1);|;;
-A b >b:B;B id !id ?id|1 2 3;1 1 2|2 1 RepeatedKey;2 2 RepeatedKey;1 1 Dangling(1);1 3 Dangling(1);|2;2
-V a b !a ?b|1,5 2,6 1,6 3,7 -,8|1 1 RepeatedKey;1 2 RepeatedUnique(1);1 3 RepeatedKey;1 5 NullKey;|3,7
-T a b c !a >b:T >c:T|1,1,9 2,2,2 3,8,9 4,1,4|1 1 Dangling(2);1 3 Dangling(1);1 4 Dangling(1);|2,2,2
-E id boss !id >boss:E|1,2 2,3 3,4 4,5|1 4 Dangling(1);1 3 Dangling(1);1 2 Dangling(1);1 1 Dangling(1);|
-E id boss !id >boss:E|1,2 2,1||1,2 2,1"
+// The removals, and the rows that are left.
+fn cleaned(alloc: Global, database: &Database) -> Option<(Removals, RowsList)> {
+    let removals = clean(alloc, database).ok()?;
+    let left = kept(alloc, database, &removals).ok()?;
+    Some((removals, left))
 }
 
-fn push_cell(alloc: Global, cell: &Cell, text: &mut String) -> Result<(), AllocError> {
-    match cell {
-        None => text.push_str("-")?,
-        Some(value) => text.push_str(lexical(alloc, value)?.as_str())?,
+fn are_same(rows: &Rows, others: &Rows) -> bool {
+    rows.as_slice() == others.as_slice()
+}
+
+fn are_lists(lists: &[Rows], others: &[Rows]) -> bool {
+    let mut same = lists.len() == others.len();
+    for (rows, other) in lists.iter().zip(others.iter()) {
+        same = same & are_same(rows, other);
     }
-    Ok(())
+    same
 }
 
-fn push_row(alloc: Global, row: &[Cell], text: &mut String) -> Result<(), AllocError> {
-    for (place, cell) in row.iter().enumerate() {
-        if place > 0 {
-            text.push_str(",")?;
+fn is_told(alloc: Global, removals: &Removals, expected: &str) -> bool {
+    match removals_text(alloc, removals) {
+        Some(text) => text.as_str() == expected,
+        None => false,
+    }
+}
+
+fn are_files(alloc: Global, schema: &Schema, rows: &[Rows], files: &str) -> bool {
+    match lists(alloc, schema, files) {
+        Some(expected) => are_lists(rows, expected.as_slice()),
+        None => false,
+    }
+}
+
+fn is_part(alloc: Global, database: &Database, gone: &str, left: &str) -> bool {
+    match cleaned(alloc, database) {
+        Some((removals, rows)) => {
+            is_told(alloc, &removals, gone)
+                & are_files(alloc, database.schema(), rows.as_slice(), left)
         }
-        push_cell(alloc, cell, text)?;
+        None => false,
     }
-    Ok(())
 }
 
-fn push_rows(alloc: Global, rows: &Rows, text: &mut String) -> Result<(), AllocError> {
-    for (place, row) in rows.as_slice().iter().enumerate() {
-        if place > 0 {
-            text.push_str(" ")?;
-        }
-        push_row(alloc, row.as_slice(), text)?;
+fn is_cleaned(alloc: Global, statements: &str, files: &str, gone: &str, left: &str) -> bool {
+    match database(alloc, statements, files) {
+        Some(database) => is_part(alloc, &database, gone, left),
+        None => false,
     }
-    Ok(())
-}
-
-// The removals, a bar, and the rows that are left.
-fn cleaned(alloc: Global, database: &Database) -> Result<String, AllocError> {
-    let removals = clean(alloc, database)?;
-    let mut text = shown(alloc, &removals)?;
-    text.push_str("|")?;
-    for (place, rows) in kept(alloc, database, &removals)?
-        .as_slice()
-        .iter()
-        .enumerate()
-    {
-        if place > 0 {
-            text.push_str(";")?;
-        }
-        push_rows(alloc, rows, &mut text)?;
-    }
-    Ok(text)
-}
-
-fn told(alloc: Global, tables: &str, rows: &str) -> Result<String, Fail> {
-    let database = database_of(alloc, tables, rows)?;
-    Ok(cleaned(alloc, &database)?)
 }
 
 #[test]
 fn databases_are_cleaned(rt: HostRuntime) -> Result<(), Fail> {
-    let alloc = rt.alloc();
-    for line in databases().lines() {
-        let (tables, rest) = line.split_once('|').ok_or("no rows")?;
-        let (rows, want) = rest.split_once('|').ok_or("no removals")?;
-        assert_eq!(rt; told(alloc, tables, rows)?.as_str(), want, "at {line}");
+    for (statements, files, gone, left) in DATABASES {
+        let found = is_cleaned(rt.alloc(), statements, files, gone, left);
+        assert!(rt; found, "{statements}");
     }
     Ok(())
 }
@@ -245,28 +257,39 @@ const CERTIFICATES: [(&[(u64, u64, ViolationKind)], bool); 8] = [
     ),
 ];
 
-fn is_certificate(
-    alloc: Global,
-    database: &Database,
-    list: &[(u64, u64, ViolationKind)],
-) -> Result<bool, AllocError> {
+fn listed(alloc: Global, list: &[(u64, u64, ViolationKind)]) -> Option<Removals> {
     let mut removals = Removals::new(alloc);
     for &(table, row, kind) in list {
-        removals.push(Removal { table, row, kind })?;
+        removals.push(Removal { table, row, kind }).ok()?;
     }
-    check_removals(alloc, database, &removals)
+    Some(removals)
+}
+
+fn is_certificate(alloc: Global, database: &Database, removals: &Removals) -> Option<bool> {
+    check_removals(alloc, database, removals).ok()
+}
+
+fn told(alloc: Global, list: &[(u64, u64, ViolationKind)]) -> Option<bool> {
+    let database = database(
+        alloc,
+        "CREATE TABLE E (id INT, boss INT, PRIMARY KEY (id), FOREIGN KEY (boss) REFERENCES E);",
+        "id,boss
+1,
+2,1
+3,9
+4,3
+5,5
+6,7
+7,6",
+    )?;
+    is_certificate(alloc, &database, &listed(alloc, list)?)
 }
 
 #[test]
 fn certificates_are_told(rt: HostRuntime) -> Result<(), Fail> {
-    let alloc = rt.alloc();
-    let database = database_of(
-        alloc,
-        "E id boss !id >boss:E",
-        "1,- 2,1 3,9 4,3 5,5 6,7 7,6",
-    )?;
-    for (list, wanted) in CERTIFICATES {
-        assert!(rt; is_certificate(alloc, &database, list)? == wanted);
+    for (list, expected) in CERTIFICATES {
+        let found = told(rt.alloc(), list);
+        assert!(rt; found == Some(expected));
     }
     Ok(())
 }
