@@ -1,4 +1,4 @@
-use names_dm::Var;
+use names_dm::{Var, Vars};
 use solutions_dm::{
     Column, PairList, Rename, Renames, Solutions, distinct, keep, merge, minus, pairs, select,
     union, unit, unmatched,
@@ -9,300 +9,287 @@ use value_dm::{Sequence, Text, TryCopy};
 
 // Rows are written ` s=1 v=3; s=2`, where 0 is unbound, and `-` has no rows.
 
-const NAMES: [&str; 5] = ["s", "t", "v", "w", "k"];
+fn var(alloc: Global, name: &str) -> Option<Var> {
+    Var::new(Text::from_str(alloc, name).ok()?)
+}
 
-fn variable(alloc: Global, name: &str) -> Result<Var, Fail> {
-    Ok(Var::new(Text::from_str(alloc, name)?).ok_or("no name")?)
+fn column(alloc: Global, word: &str) -> Option<Column> {
+    let (name, digits) = word.split_once('=')?;
+    let name = var(alloc, name)?;
+    let mut numbers = Sequence::new(alloc);
+    numbers.push(digits.parse::<u32>().ok()?).ok()?;
+    Some(Column { name, numbers })
 }
 
 // One row of one variable, which it binds unless the number is 0.
-fn single(alloc: Global, name: Var, number: u32) -> Result<Solutions, AllocError> {
-    let mut numbers = Sequence::new(alloc);
-    numbers.push(number)?;
-    let rows = numbers.len();
+fn single(alloc: Global, column: Column) -> Result<Solutions, AllocError> {
+    let rows = column.numbers.len();
     let mut columns = Sequence::new(alloc);
-    columns.push(Column { name, numbers })?;
+    columns.push(column)?;
     Ok(Solutions::of_columns(columns, rows))
 }
 
-fn none(alloc: Global) -> Result<Solutions, AllocError> {
-    let row = unit(alloc)?;
-    keep(alloc, &row, &[0])
+fn one_row(alloc: Global) -> Option<Solutions> {
+    unit(alloc).ok()
 }
 
-fn joined(alloc: Global, left: &Solutions, right: &Solutions) -> Result<Solutions, AllocError> {
-    let places = pairs(alloc, left, right)?;
-    merge(alloc, left, right, &places)
-}
-
-fn alone(alloc: Global, left: &Solutions, right: &Solutions) -> Result<Solutions, AllocError> {
-    let places = pairs(alloc, left, right)?;
-    unmatched(alloc, left, &places)
-}
-
-fn number_of(word: &str) -> Result<u32, Fail> {
-    match word.parse::<u32>() {
-        Ok(number) => Ok(number),
-        Err(_) => Err("no number")?,
-    }
-}
-
-fn cell(alloc: Global, word: &str) -> Result<Solutions, Fail> {
-    let mut parts = word.split('=');
-    let name = variable(alloc, parts.next().unwrap_or(""))?;
-    let number = number_of(parts.next().unwrap_or(""))?;
-    Ok(single(alloc, name, number)?)
-}
-
-fn with_cell(alloc: Global, row: Solutions, word: &str) -> Result<Solutions, Fail> {
-    if word == "" {
-        Ok(row)
+fn kept(alloc: Global, rows: &Solutions, mask: &[u8]) -> Option<Solutions> {
+    if mask.len() == rows.len() {
+        keep(alloc, rows, mask).ok()
     } else {
-        Ok(joined(alloc, &row, &cell(alloc, word)?)?)
+        None
     }
 }
 
-fn one_row(alloc: Global) -> Result<Solutions, Fail> {
-    Ok(unit(alloc)?)
+fn joined(alloc: Global, left: &Solutions, right: &Solutions) -> Option<Solutions> {
+    let places = pairs(alloc, left, right).ok()?;
+    merge(alloc, left, right, &places).ok()
 }
 
-fn no_rows(alloc: Global) -> Result<Solutions, Fail> {
-    Ok(none(alloc)?)
+fn alone(alloc: Global, left: &Solutions, right: &Solutions) -> Option<Solutions> {
+    let places = pairs(alloc, left, right).ok()?;
+    unmatched(alloc, left, &places).ok()
 }
 
-fn row(alloc: Global, text: &str) -> Result<Solutions, Fail> {
+fn less(alloc: Global, left: &Solutions, right: &Solutions) -> Option<Solutions> {
+    minus(alloc, left, right).ok()
+}
+
+fn both(alloc: Global, left: &Solutions, right: &Solutions) -> Option<Solutions> {
+    union(alloc, left, right).ok()
+}
+
+fn once(alloc: Global, rows: &Solutions) -> Option<Solutions> {
+    distinct(alloc, rows).ok()
+}
+
+fn with_cell(alloc: Global, row: &Solutions, word: &str) -> Option<Solutions> {
+    let cell = single(alloc, column(alloc, word)?).ok()?;
+    joined(alloc, row, &cell)
+}
+
+fn row(alloc: Global, words: &str) -> Option<Solutions> {
     let mut row = one_row(alloc)?;
-    for word in text.split(' ') {
-        row = with_cell(alloc, row, word)?;
-    }
-    Ok(row)
-}
-
-fn with_row(alloc: Global, rows: &Solutions, text: &str) -> Result<Solutions, Fail> {
-    Ok(union(alloc, rows, &row(alloc, text)?)?)
-}
-
-fn rows(alloc: Global, text: &str) -> Result<Solutions, Fail> {
-    let mut rows = no_rows(alloc)?;
-    if text != "-" {
-        for row in text.split(';') {
-            rows = with_row(alloc, &rows, row)?;
+    for word in words.split(' ') {
+        if !word.is_empty() {
+            row = with_cell(alloc, &row, word)?;
         }
     }
-    Ok(rows)
+    Some(row)
 }
 
-fn number(rows: &Solutions, row: usize, name: &Var) -> u32 {
-    match rows.column(name) {
-        None => 0,
-        Some(numbers) => match numbers.get(row) {
-            None => 0,
-            Some(number) => *number,
-        },
+fn with_row(alloc: Global, rows: &Solutions, words: &str) -> Option<Solutions> {
+    let row = row(alloc, words)?;
+    both(alloc, rows, &row)
+}
+
+fn rows(alloc: Global, text: &str) -> Option<Solutions> {
+    let mut rows = kept(alloc, &one_row(alloc)?, &[0])?;
+    if text != "-" {
+        for words in text.split(';') {
+            rows = with_row(alloc, &rows, words)?;
+        }
     }
+    Some(rows)
 }
 
-fn push_cell(
-    alloc: Global,
-    out: &mut String,
-    rows: &Solutions,
-    row: usize,
-    name: &str,
-) -> Result<(), Fail> {
-    let number = number(rows, row, &variable(alloc, name)?);
-    if number != 0 {
-        let cell = format!(in alloc; " {name}={number}")?;
-        out.push_str(cell.as_str())?;
+fn number(rows: &Solutions, row: usize, name: &Var) -> Option<u32> {
+    let numbers = rows.column(name)?;
+    let number = numbers.get(row)?;
+    Some(*number)
+}
+
+fn push_cell(alloc: Global, out: &mut String, name: &Var, number: u32) -> Option<()> {
+    if number == 0 {
+        return Some(());
     }
-    Ok(())
+    let letters = name.as_str();
+    let cell = format!(in alloc; " {letters}={number}").ok()?;
+    out.push_str(cell.as_str()).ok()
 }
 
-fn row_text(alloc: Global, rows: &Solutions, row: usize) -> Result<String, Fail> {
+fn row_text(alloc: Global, rows: &Solutions, row: usize, names: &[Var]) -> Option<String> {
     let mut out = String::new(alloc);
-    for name in NAMES {
-        push_cell(alloc, &mut out, rows, row, name)?;
+    for name in names {
+        let number = number(rows, row, name).unwrap_or(0);
+        push_cell(alloc, &mut out, name, number)?;
     }
-    out.push_str(";")?;
-    Ok(out)
+    out.push(';').ok()?;
+    Some(out)
+}
+
+fn names(alloc: Global) -> Option<Vars> {
+    let mut names = Vars::new(alloc);
+    for name in "s t v w k".split(' ') {
+        names.push(var(alloc, name)?).ok()?;
+    }
+    Some(names)
 }
 
 // Each row's text, in the order of texts.
-fn lines(alloc: Global, rows: &Solutions) -> Result<Vec<String>, Fail> {
+fn lines(alloc: Global, rows: &Solutions) -> Option<Vec<String>> {
+    let names = names(alloc)?;
     let mut lines = Vec::new(alloc);
-    for row in 0..rows.len() {
-        lines.push(row_text(alloc, rows, row)?)?;
+    for place in 0..rows.len() {
+        lines
+            .push(row_text(alloc, rows, place, names.as_slice())?)
+            .ok()?;
     }
     lines.sort_unstable();
-    Ok(lines)
+    Some(lines)
 }
 
-fn shown(alloc: Global, rows: &Solutions) -> Result<String, Fail> {
+fn shown(alloc: Global, rows: Option<Solutions>) -> Option<String> {
+    let lines = lines(alloc, &rows?)?;
     let mut out = String::new(alloc);
-    for line in &lines(alloc, rows)? {
-        out.push_str(line.as_str())?;
+    for line in &lines {
+        out.push_str(line.as_str()).ok()?;
     }
-    Ok(out)
+    Some(out)
 }
 
-fn less(alloc: Global, left: &Solutions, right: &Solutions) -> Result<Solutions, AllocError> {
-    minus(alloc, left, right)
-}
-
-fn once(alloc: Global, left: &Solutions, right: &Solutions) -> Result<Solutions, AllocError> {
-    let both = union(alloc, left, right)?;
-    distinct(alloc, &both)
-}
-
-fn worked(
-    alloc: Global,
-    word: char,
-    left: &Solutions,
-    right: &Solutions,
-) -> Result<Solutions, AllocError> {
+fn worked(alloc: Global, word: &str, left: &Solutions, right: &Solutions) -> Option<Solutions> {
     match word {
-        'j' => joined(alloc, left, right),
-        'a' => alone(alloc, left, right),
-        'm' => less(alloc, left, right),
-        _ => once(alloc, left, right),
+        "join" => joined(alloc, left, right),
+        "alone" => alone(alloc, left, right),
+        "minus" => less(alloc, left, right),
+        _ => once(alloc, &both(alloc, left, right)?),
     }
 }
 
-fn answer(alloc: Global, word: char, left: &str, right: &str) -> Result<String, Fail> {
+fn operated(alloc: Global, word: &str, left: &str, right: &str) -> Option<String> {
     let left = rows(alloc, left)?;
     let right = rows(alloc, right)?;
-    shown(alloc, &worked(alloc, word, &left, &right)?)
+    shown(alloc, worked(alloc, word, &left, &right))
 }
 
-// j: the unions of compatible rows; a: the rows of left without a partner; m: the difference; d: each row of both once.
-const CASES: [(char, &str, &str, &str); 19] = [
-    ('j', " s=1 v=3; s=2 v=4", " s=1 w=5", " s=1 v=3 w=5;"),
-    ('j', " s=1", " t=2; t=3", " s=1 t=2; s=1 t=3;"),
-    ('j', " s=1", "", " s=1;"),
-    ('j', "-", " s=1", ""),
-    (
-        'j',
-        " s=1 w=5; s=2 w=0",
-        " t=1 w=5",
-        " s=1 t=1 w=5; s=2 t=1 w=5;",
-    ),
-    ('j', " s=1 w=0", " t=1 w=0", " s=1 t=1;"),
-    (
-        'j',
-        " s=1 w=5; s=1 w=0; s=2 w=5",
-        " s=1 w=5; s=1 w=6",
-        " s=1 w=5; s=1 w=5; s=1 w=6;",
-    ),
-    ('a', " s=1 v=3; s=2 v=4", " s=1 w=5", " s=2 v=4;"),
-    ('a', " s=1; s=0", " s=2", " s=1;"),
-    ('a', " s=1; s=2", "-", " s=1; s=2;"),
-    ('m', " s=1 v=3; s=2 v=4", " s=1 w=5", " s=2 v=4;"),
-    ('m', " s=1; s=2", "", " s=1; s=2;"),
-    ('m', " s=1; s=2", " t=1 w=5", " s=1; s=2;"),
-    ('m', " s=0 w=5; s=2 w=5", " s=1 w=5", " s=2 w=5;"),
-    ('m', " s=1 w=0", " t=1 w=5", " s=1;"),
-    ('m', " s=1 w=5", " s=1 w=6", " s=1 w=5;"),
-    ('d', " s=1; s=2; s=1", " s=2; t=3", " s=1; s=2; t=3;"),
-    ('d', " s=1 w=0; s=1", " w=0 s=1", " s=1;"),
-    ('d', "", "", ";"),
-];
-
-#[test]
-fn operators(rt: HostRuntime) -> Result<(), Fail> {
-    let alloc = rt.alloc();
-    for (word, left, right, expected) in CASES {
-        let found = answer(alloc, word, left, right)?;
-        assert_eq!(rt; found.as_str(), expected, "{left} {word} {right}");
-    }
-    Ok(())
+fn rename(alloc: Global, pair: &str) -> Option<Rename> {
+    let (from, to) = pair.split_once('>')?;
+    let from = var(alloc, from)?;
+    let to = var(alloc, to)?;
+    Some(Rename { from, to })
 }
 
-fn one_rename(alloc: Global, from: Var, to: Var) -> Result<Renames, AllocError> {
+fn renames(alloc: Global, pair: &str) -> Option<Renames> {
     let mut renames = Renames::new(alloc);
-    renames.push(Rename { from, to })?;
-    renames.copy(alloc)
+    renames.push(rename(alloc, pair)?).ok()?;
+    Some(renames)
 }
 
-fn only(alloc: Global, rows: &Solutions, from: Var, to: Var) -> Result<Solutions, AllocError> {
+fn selected(alloc: Global, rows: &Solutions, rename: Rename) -> Result<Solutions, AllocError> {
     let mut renames = Renames::new(alloc);
-    renames.push(Rename { from, to })?;
+    renames.push(rename)?;
     select(alloc, rows, &renames)
 }
 
-fn selected(alloc: Global, text: &str, from: &str, to: &str) -> Result<String, Fail> {
+fn renamed(alloc: Global, text: &str, pair: &str) -> Option<String> {
+    let rename = rename(alloc, pair)?;
     let rows = rows(alloc, text)?;
-    let from = variable(alloc, from)?;
-    let to = variable(alloc, to)?;
-    shown(alloc, &only(alloc, &rows, from, to)?)
+    shown(alloc, selected(alloc, &rows, rename).ok())
 }
 
-fn kept(alloc: Global, rows: &Solutions, mask: &[u8]) -> Result<Solutions, Fail> {
-    if mask.len() == rows.len() {
-        Ok(keep(alloc, rows, mask)?)
-    } else {
-        Err("a mask of another length")?
-    }
-}
-
-fn kept_text(alloc: Global, text: &str, mask: &[u8]) -> Result<String, Fail> {
+fn kept_text(alloc: Global, text: &str) -> Option<String> {
     let rows = rows(alloc, text)?;
-    shown(alloc, &kept(alloc, &rows, mask)?)
+    shown(alloc, kept(alloc, &rows, &[0, 2, 1]))
 }
 
-#[test]
-fn renamed_and_kept(rt: HostRuntime) -> Result<(), Fail> {
-    let alloc = rt.alloc();
-    for (from, to, expected) in [
-        ("v", "k", " k=3; k=4;"),
-        ("v", "v", " v=3; v=4;"),
-        ("u", "k", ";;"),
-    ] {
-        let found = selected(alloc, " s=1 v=3; s=2 v=4", from, to)?;
-        assert_eq!(rt; found.as_str(), expected, "{from} {to}");
-    }
-    let found = kept_text(alloc, " s=1; s=2; s=3", &[0, 2, 1])?;
-    assert_eq!(rt; found.as_str(), " s=2; s=3;");
-    Ok(())
-}
-
-fn places_text(alloc: Global, places: &PairList) -> Result<String, Fail> {
+fn places_text(alloc: Global, places: &PairList) -> Option<String> {
     let mut out = String::new(alloc);
     for pair in places.as_slice() {
-        let text = format!(in alloc; "{},{};", pair.left, pair.right)?;
-        out.push_str(text.as_str())?;
+        let (left, right) = (pair.left, pair.right);
+        let text = format!(in alloc; "{left},{right};").ok()?;
+        out.push_str(text.as_str()).ok()?;
     }
-    Ok(out)
+    Some(out)
 }
 
-fn places(alloc: Global, left: &Solutions, right: &Solutions) -> Result<PairList, AllocError> {
-    let places = pairs(alloc, left, right)?;
-    places.copy(alloc)
+fn places(alloc: Global, left: &Solutions, right: &Solutions) -> Option<PairList> {
+    pairs(alloc, left, right).ok()?.copy(alloc).ok()
 }
 
-fn copied_places(alloc: Global, left: &str, right: &str) -> Result<String, Fail> {
+fn copied_places(alloc: Global, left: &str, right: &str) -> Option<String> {
     let left = rows(alloc, left)?;
     let right = rows(alloc, right)?;
     places_text(alloc, &places(alloc, &left, &right)?)
 }
 
-fn copied_column(alloc: Global, name: Var, number: u32) -> Result<Column, AllocError> {
-    let mut numbers = Sequence::new(alloc);
-    numbers.push(number)?;
-    Column { name, numbers }.copy(alloc)
+// The name of a copied column, and how many numbers it has.
+fn copied_column(alloc: Global, word: &str) -> Option<String> {
+    let column = column(alloc, word)?.copy(alloc).ok()?;
+    let (name, count) = (column.name.as_str(), column.numbers.len());
+    format!(in alloc; "{name} {count}").ok()
 }
 
-#[test]
-fn copies(rt: HostRuntime) -> Result<(), Fail> {
-    let alloc = rt.alloc();
-    let found = copied_places(alloc, " s=1; s=2", " s=3; s=1")?;
-    assert_eq!(rt; found.as_str(), "0,1;");
-    let column = copied_column(alloc, variable(alloc, "s")?, 7)?;
-    assert_eq!(rt; column.name.as_str(), "s");
-    assert_eq!(rt; column.numbers.len(), 1);
-    let renames = one_rename(alloc, variable(alloc, "s")?, variable(alloc, "k")?)?;
-    assert_eq!(rt; renames.len(), 1);
+// The names of the copied renames.
+fn copied_renames(alloc: Global, pair: &str) -> Option<String> {
+    let renames = renames(alloc, pair)?.copy(alloc).ok()?;
+    let mut out = String::new(alloc);
     for rename in renames.as_slice() {
-        assert_eq!(rt; rename.from.as_str(), "s");
-        assert_eq!(rt; rename.to.as_str(), "k");
+        out.push_str(rename.from.as_str()).ok()?;
+        out.push_str(rename.to.as_str()).ok()?;
+    }
+    Some(out)
+}
+
+fn answer(alloc: Global, word: &str, left: &str, right: &str) -> Option<String> {
+    match word {
+        "select" => renamed(alloc, left, right),
+        "keep" => kept_text(alloc, left),
+        "pairs" => copied_places(alloc, left, right),
+        "column" => copied_column(alloc, left),
+        "renames" => copied_renames(alloc, left),
+        _ => operated(alloc, word, left, right),
+    }
+}
+
+fn fields(case: &str) -> Option<(&str, &str, &str, &str)> {
+    let (first, rest) = case.split_once('|')?;
+    let (second, rest) = rest.split_once('|')?;
+    let (third, fourth) = rest.split_once('|')?;
+    Some((first, second, third, fourth))
+}
+
+fn is_answer(alloc: Global, case: &str) -> Option<bool> {
+    let (word, left, right, expected) = fields(case)?;
+    let found = answer(alloc, word, left, right)?;
+    Some(found.as_str() == expected)
+}
+
+// join: the unions of compatible rows; alone: the rows of left without a partner; minus: the difference; once: each row of
+// both once; select: the rows by other names; keep: the second and third row of three; pairs: the places of compatible
+// rows, of a copied list; column and renames: the names of copies.
+const CASES: &str = "join| s=1 v=3; s=2 v=4| s=1 w=5| s=1 v=3 w=5;
+join| s=1| t=2; t=3| s=1 t=2; s=1 t=3;
+join| s=1|| s=1;
+join|-| s=1|
+join| s=1 w=5; s=2 w=0| t=1 w=5| s=1 t=1 w=5; s=2 t=1 w=5;
+join| s=1 w=0| t=1 w=0| s=1 t=1;
+join| s=1 w=5; s=1 w=0; s=2 w=5| s=1 w=5; s=1 w=6| s=1 w=5; s=1 w=5; s=1 w=6;
+alone| s=1 v=3; s=2 v=4| s=1 w=5| s=2 v=4;
+alone| s=1; s=0| s=2| s=1;
+alone| s=1; s=2|-| s=1; s=2;
+minus| s=1 v=3; s=2 v=4| s=1 w=5| s=2 v=4;
+minus| s=1; s=2|| s=1; s=2;
+minus| s=1; s=2| t=1 w=5| s=1; s=2;
+minus| s=0 w=5; s=2 w=5| s=1 w=5| s=2 w=5;
+minus| s=1 w=0| t=1 w=5| s=1;
+minus| s=1 w=5| s=1 w=6| s=1 w=5;
+once| s=1; s=2; s=1| s=2; t=3| s=1; s=2; t=3;
+once| s=1 w=0; s=1| w=0 s=1| s=1;
+once|||;
+select| s=1 v=3; s=2 v=4|v>k| k=3; k=4;
+select| s=1 v=3; s=2 v=4|v>v| v=3; v=4;
+select| s=1 v=3; s=2 v=4|u>k|;;
+keep| s=1; s=2; s=3|| s=2; s=3;
+pairs| s=1; s=2| s=3; s=1|0,1;
+column|s=7||s 1
+renames|s>k||sk";
+
+#[test]
+fn operators(rt: HostRuntime) -> Result<(), Fail> {
+    for case in CASES.lines() {
+        let found = is_answer(rt.alloc(), case);
+        assert!(rt; found == Some(true), "{case}");
     }
     Ok(())
 }
