@@ -11,10 +11,10 @@ use schema_dm::Schema;
 use std::alloc::Global;
 use std::test::Fail;
 use table_csv::{Database, Rows, RowsList, read_table};
-use value_dm::{NullMode, Text, TryCopy};
+use value_dm::{NullMode, Text};
 
 // The statements of the tables, the files of the database, those of the batch, and the lines that the batch puts, with `--`
-// between files; `a` stands for rdf:type, and a datatype for its IRI.
+// between files; `%` and `$` stand for the namespaces of rdf and xsd.
 const CASES: [(&str, &str, &str, &str); 2] = [
     (
         "CREATE TABLE Addresses (ID INT PRIMARY KEY, city CHAR(10), state CHAR(2));
@@ -32,13 +32,13 @@ ID,fname,addr
 ID,fname,addr
 9,Ann,19
 ",
-        "<~Addresses/ID=19> a <~Addresses> .
-<~Addresses/ID=19> <~Addresses#ID> \"19\"^^integer .
+        "<~Addresses/ID=19> <%type> <~Addresses> .
+<~Addresses/ID=19> <~Addresses#ID> \"19\"^^<$integer> .
 <~Addresses/ID=19> <~Addresses#city> \"Paris\" .
-<~People/ID=9> a <~People> .
-<~People/ID=9> <~People#ID> \"9\"^^integer .
+<~People/ID=9> <%type> <~People> .
+<~People/ID=9> <~People#ID> \"9\"^^<$integer> .
 <~People/ID=9> <~People#fname> \"Ann\" .
-<~People/ID=9> <~People#addr> \"19\"^^integer .
+<~People/ID=9> <~People#addr> \"19\"^^<$integer> .
 <~People/ID=9> <~People#ref-addr> <~Addresses/ID=19> .
 ",
     ),
@@ -51,7 +51,7 @@ hi
         "msg
 hi
 ",
-        "_:t1r3 a <~Log> .
+        "_:t1r3 <%type> <~Log> .
 _:t1r3 <~Log#msg> \"hi\" .
 ",
     ),
@@ -64,13 +64,26 @@ fn rows(alloc: Global, schema: &Schema, t: usize, file: &str) -> Option<Rows> {
     }
 }
 
-fn database(alloc: Global, schema: &Schema, files: &str) -> Option<Database> {
+fn lists(alloc: Global, schema: &Schema, files: &str) -> Option<RowsList> {
     let mut lists = RowsList::new(alloc);
     for (t, file) in files.split("--\n").enumerate() {
-        let list = rows(alloc, schema, t, file)?;
-        lists.push(list).ok()?;
+        lists.push(rows(alloc, schema, t, file)?).ok()?;
     }
-    Database::new(schema.copy(alloc).ok()?, lists)
+    Some(lists)
+}
+
+fn schema(alloc: Global, statements: &str) -> Option<Schema> {
+    read_ddl(alloc, statements.as_bytes()).ok()
+}
+
+fn joined(schema: Schema, lists: RowsList) -> Option<Database> {
+    Database::new(schema, lists)
+}
+
+fn database(alloc: Global, statements: &str, files: &str) -> Option<Database> {
+    let schema = schema(alloc, statements)?;
+    let lists = lists(alloc, &schema, files)?;
+    joined(schema, lists)
 }
 
 fn base(alloc: Global) -> Option<Base> {
@@ -97,6 +110,14 @@ fn keeps_keys(alloc: Global, database: &Database) -> bool
     }
 }
 
+fn put(alloc: Global, base: &Base, old: &Database, batch: &Database, out: &mut NoFaultSink) -> bool
+    requires batch { IsBatchFor old.now batch.now }
+    requires old { KeepsKeys old.now }
+    requires whole { KeepsKeys (appended old.now batch.now) }
+{
+    write_batch(alloc, base, old, batch, out).is_ok()
+}
+
 // Whether these bytes are put for the batch.
 fn are_put(alloc: Global, old: &Database, batch: &Database, expected: &str) -> bool {
     if !is_batch_for(old, batch) {
@@ -112,59 +133,40 @@ fn are_put(alloc: Global, old: &Database, batch: &Database, expected: &str) -> b
         return false;
     };
     let mut out = NoFaultSink::new(alloc);
-    let put = write_batch(alloc, &base, old, batch, &mut out);
-    put.is_ok() && out.bytes() == expected.as_bytes()
+    let done = put(alloc, &base, old, batch, &mut out);
+    done & (out.bytes() == expected.as_bytes())
 }
 
-fn push_word(line: &mut String, word: &str) -> Option<()> {
-    if word == "a" {
-        return line
-            .push_str("<http://www.w3.org/1999/02/22-rdf-syntax-ns#type>")
-            .ok();
-    }
-    let Some((front, datatype)) = word.split_once("^^") else {
-        return line.push_str(word).ok();
-    };
-    line.push_str(front).ok()?;
-    line.push_str("^^<http://www.w3.org/2001/XMLSchema#").ok()?;
-    line.push_str(datatype).ok()?;
-    line.push_str(">").ok()
-}
-
-fn push_line(lines: &mut String, short: &str) -> Option<()> {
-    for (k, word) in short.split(' ').enumerate() {
-        if k > 0 {
-            lines.push_str(" ").ok()?;
+fn push_mark(text: &mut String, mark: char) -> Option<()> {
+    match mark {
+        '%' => {
+            text.push_str("http://www.w3.org/1999/02/22-rdf-syntax-ns#")
+                .ok()
         }
-        push_word(lines, word)?;
+        '$' => text.push_str("http://www.w3.org/2001/XMLSchema#").ok(),
+        _ => text.push(mark).ok(),
     }
-    lines.push_str("\n").ok()
 }
 
-fn lines(alloc: Global, shorts: &str) -> Option<String> {
-    let mut lines = String::new(alloc);
-    for short in shorts.lines() {
-        push_line(&mut lines, short)?;
+fn document(alloc: Global, marked: &str) -> Option<String> {
+    let mut text = String::new(alloc);
+    for mark in marked.chars() {
+        push_mark(&mut text, mark)?;
     }
-    Some(lines)
+    Some(text)
 }
 
-fn is_put(alloc: Global, statements: &str, files: &str, more: &str, shorts: &str) -> Option<bool> {
-    let schema = read_ddl(alloc, statements.as_bytes()).ok()?;
-    let old = database(alloc, &schema, files)?;
-    let batch = database(alloc, &schema, more)?;
-    let expected = lines(alloc, shorts)?;
-    Some(are_put(alloc, &old, &batch, expected.as_str()))
+fn are_marked(alloc: Global, old: &Database, batch: &Database, marked: &str) -> bool {
+    match document(alloc, marked) {
+        Some(expected) => are_put(alloc, old, batch, expected.as_str()),
+        None => false,
+    }
 }
 
-#[test]
-fn batches(rt: HostRuntime) -> Result<(), Fail> {
-    for case in CASES {
-        let (statements, files, more, lines) = case;
-        let found = is_put(rt.alloc(), statements, files, more, lines) == Some(true);
-        assert!(rt; found, "{statements}");
-    }
-    Ok(())
+fn is_put(alloc: Global, statements: &str, files: &str, more: &str, marked: &str) -> Option<bool> {
+    let old = database(alloc, statements, files)?;
+    let batch = database(alloc, statements, more)?;
+    Some(are_marked(alloc, &old, &batch, marked))
 }
 
 fn are_rows(alloc: Global, old: &Database, batch: &Database, expected: &Database) -> bool {
@@ -188,32 +190,34 @@ fn same_rows(database: &Database, other: &Database) -> bool {
     database.rows_of(0).as_slice() == other.rows_of(0).as_slice()
 }
 
+const ONE: &str = "CREATE TABLE T (a INT);";
+
+fn have_rows(alloc: Global, old: &Database, batch: &Database) -> Option<bool> {
+    let expected = database(alloc, ONE, "a\n1\n2\n3\n")?;
+    Some(are_rows(alloc, old, batch, &expected))
+}
+
 fn has_rows(alloc: Global) -> Option<bool> {
-    let schema = read_ddl(alloc, b"CREATE TABLE T (a INT);".as_slice()).ok()?;
-    let old = database(alloc, &schema, "a\n1\n2\n")?;
-    let batch = database(alloc, &schema, "a\n3\n")?;
-    let expected = database(alloc, &schema, "a\n1\n2\n3\n")?;
-    Some(are_rows(alloc, &old, &batch, &expected))
+    let old = database(alloc, ONE, "a\n1\n2\n")?;
+    let batch = database(alloc, ONE, "a\n3\n")?;
+    have_rows(alloc, &old, &batch)
 }
 
-#[test]
-fn rows_of_both(rt: HostRuntime) -> Result<(), Fail> {
-    let found = has_rows(rt.alloc()) == Some(true);
-    assert!(rt; found);
-    Ok(())
-}
-
-fn another(alloc: Global) -> Option<bool> {
-    let schema = read_ddl(alloc, b"CREATE TABLE T (a INT);".as_slice()).ok()?;
-    let other = read_ddl(alloc, b"CREATE TABLE T (a TEXT);".as_slice()).ok()?;
-    let old = database(alloc, &schema, "a\n1\n")?;
-    let batch = database(alloc, &other, "a\n1\n")?;
+// Whether a database of another table is a batch.
+fn is_another(alloc: Global) -> Option<bool> {
+    let old = database(alloc, ONE, "a\n1\n")?;
+    let batch = database(alloc, "CREATE TABLE T (a TEXT);", "a\n1\n")?;
     Some(is_batch_for(&old, &batch))
 }
 
 #[test]
-fn other_tables(rt: HostRuntime) -> Result<(), Fail> {
-    let found = another(rt.alloc()) == Some(false);
-    assert!(rt; found);
+fn batches(rt: HostRuntime) -> Result<(), Fail> {
+    for (statements, files, more, marked) in CASES {
+        let found = is_put(rt.alloc(), statements, files, more, marked);
+        assert!(rt; found == Some(true), "{statements}");
+    }
+    let rows = has_rows(rt.alloc());
+    let another = is_another(rt.alloc());
+    assert!(rt; (rows == Some(true)) & (another == Some(false)));
     Ok(())
 }
