@@ -5,7 +5,7 @@ use names_dm::{
 };
 use std::alloc::Global;
 use std::test::Fail;
-use value_dm::{Names, Text, TryCopy, Value};
+use value_dm::{Text, TryCopy, Value};
 
 fn text(alloc: Global, letters: &str) -> Option<Text> {
     Text::from_str(alloc, letters).ok()
@@ -153,49 +153,6 @@ const WORDS: &str = "la|l_9|l9|l:|lz.1|lz..1|la-|la\u{B7}|l\u{C0}\u{D6}\u{D8}\u{
     i\u{7F}|Ia\u{20}|Ia<|Ia\\|I\u{0}|ten|ten-GB|ten-1-a9|T|Te1|Ten-|T-en|Ten--a|Té|vID|v_5F|v9|\
     V|Va-b|Vé";
 
-#[test]
-fn words(rt: HostRuntime) -> Result<(), Fail> {
-    for word in WORDS.split('|') {
-        let found = is_told(rt.alloc(), word);
-        assert!(rt; found, "{word}");
-    }
-    Ok(())
-}
-
-#[test]
-fn names(rt: HostRuntime) -> Result<(), Fail> {
-    for pair in FORMS.lines() {
-        let found = is_pair(rt.alloc(), pair);
-        assert!(rt; found, "{pair}");
-    }
-    for pair in NAMED.lines() {
-        let found = is_named(rt.alloc(), pair);
-        assert!(rt; found, "{pair}");
-    }
-    Ok(())
-}
-
-fn add_name(alloc: Global, names: &mut Names, name: &str) -> Option<()> {
-    names.push(text(alloc, name)?).ok()
-}
-
-fn columns(alloc: Global) -> Option<Names> {
-    let mut names = Names::new(alloc);
-    add_name(alloc, &mut names, "x")?;
-    add_name(alloc, &mut names, "y")?;
-    Some(names)
-}
-
-fn enrolled(alloc: Global) -> Option<RelName> {
-    Some(RelName {
-        table: text(alloc, "Enrolled")?,
-        left: text(alloc, "student")?,
-        left_target: text(alloc, "id")?,
-        right: text(alloc, "course")?,
-        right_target: text(alloc, "code")?,
-    })
-}
-
 fn add_part(alloc: Global, key: &mut KeyParts, column: &str, value: Value) -> Option<()> {
     let column = text(alloc, column)?;
     key.push(KeyPart { column, value }).ok()
@@ -209,20 +166,20 @@ fn key(alloc: Global, value: Value) -> Option<KeyParts> {
     Some(key)
 }
 
-fn table(alloc: Global, base: &Base) -> Option<Iri> {
-    table_iri(alloc, base, "Addresses").ok()
+fn table(alloc: Global, base: &Base, name: &Text) -> Option<Iri> {
+    table_iri(alloc, base, name.as_str()).ok()
 }
 
-fn column(alloc: Global, base: &Base) -> Option<Iri> {
-    column_iri(alloc, base, "a b/c", "x;y=z").ok()
+fn column(alloc: Global, base: &Base, name: &ColumnName) -> Option<Iri> {
+    column_iri(alloc, base, name.table.as_str(), name.column.as_str()).ok()
 }
 
-fn reference(alloc: Global, base: &Base) -> Option<Iri> {
-    ref_iri(alloc, base, "Q", &columns(alloc)?).ok()
+fn reference(alloc: Global, base: &Base, name: &RefName) -> Option<Iri> {
+    ref_iri(alloc, base, name.table.as_str(), &name.columns).ok()
 }
 
-fn relation(alloc: Global, base: &Base) -> Option<Iri> {
-    rel_iri(alloc, base, &enrolled(alloc)?).ok()
+fn relation(alloc: Global, base: &Base, name: &RelName) -> Option<Iri> {
+    rel_iri(alloc, base, name).ok()
 }
 
 fn row(alloc: Global, base: &Base, key: Option<KeyParts>) -> Option<Iri> {
@@ -233,61 +190,59 @@ fn text_row(alloc: Global, base: &Base, letters: &str) -> Option<Iri> {
     row(alloc, base, key(alloc, Value::Text(text(alloc, letters)?)))
 }
 
-fn spelled(alloc: Global, base: &Base, case: u32) -> Option<Iri> {
-    match case {
-        0 => table(alloc, base),
-        1 => column(alloc, base),
-        2 => reference(alloc, base),
-        3 => relation(alloc, base),
-        4 => text_row(alloc, base, "x;b=y"),
-        5 => text_row(alloc, base, ""),
-        _ => row(alloc, base, key(alloc, Value::Integer(18))),
+fn spelled(alloc: Global, letters: &str) -> Option<Iri> {
+    let base = base(alloc)?;
+    match letters.strip_prefix('=') {
+        Some(value) => text_row(alloc, &base, value),
+        None => row(alloc, &base, key(alloc, Value::Integer(18))),
     }
 }
 
-fn is_spelled(alloc: Global, case: u32, expected: &str) -> bool {
-    match base(alloc) {
-        Some(base) => is_iri(spelled(alloc, &base, case), expected),
+// The text of a row's first value behind `=`, or the integer 18, and the row's IRI.
+fn is_row(alloc: Global, case: &str) -> bool {
+    match case.split_once('|') {
+        Some((value, expected)) => match spelled(alloc, value) {
+            Some(iri) => iri.as_str() == expected,
+            None => false,
+        },
         None => false,
     }
 }
 
-fn is_iri(found: Option<Iri>, expected: &str) -> bool {
-    match found {
-        Some(iri) => iri.as_str() == expected,
-        None => false,
-    }
-}
-
-fn expected_iri(case: u32) -> &'static str {
-    match case {
-        0 => "http://foo.example/DB/Addresses",
-        1 => "http://foo.example/DB/a%20b%2Fc#x%3By%3Dz",
-        2 => "http://foo.example/DB/Q#ref-x;y",
-        3 => "http://foo.example/DB/Enrolled#rel-student=id;course=code",
-        4 => "http://foo.example/DB/K/a=x%3Bb%3Dy;b=z",
-        5 => "http://foo.example/DB/K/a=;b=z",
-        _ => "http://foo.example/DB/K/a=18;b=z",
-    }
-}
-
-#[test]
-fn spelled_iris(rt: HostRuntime) -> Result<(), Fail> {
-    for case in 0..7 {
-        let found = is_spelled(rt.alloc(), case, expected_iri(case));
-        assert!(rt; found, "{case}");
-    }
-    Ok(())
-}
+const ROWS: &str = "=x;b=y|http://foo.example/DB/K/a=x%3Bb%3Dy;b=z
+=|http://foo.example/DB/K/a=;b=z
+18|http://foo.example/DB/K/a=18;b=z";
 
 fn push_word(out: &mut String, word: &Text) -> Option<()> {
     out.push(' ').ok()?;
     out.push_str(word.as_str()).ok()
 }
 
+// Whether a name that was read is that of the IRI, and the same as its copy; nothing else.
+fn same<T: TryCopy + PartialEq + Drop>(
+    alloc: Global,
+    name: &T,
+    found: Option<Iri>,
+    iri: &Iri,
+) -> Option<()> {
+    let copy = name.copy(alloc).ok()?;
+    if (copy == *name) & (found? == *iri) {
+        Some(())
+    } else {
+        None
+    }
+}
+
+fn read_table(alloc: Global, base: &Base, iri: &Iri) -> Option<Option<Text>> {
+    read_table_iri(alloc, base, iri).ok()
+}
+
 fn push_table(alloc: Global, out: &mut String, base: &Base, iri: &Iri) -> Option<()> {
-    match read_table_iri(alloc, base, iri).ok()? {
-        Some(name) => push_word(out, &name),
+    match read_table(alloc, base, iri)? {
+        Some(name) => {
+            same(alloc, &name, table(alloc, base, &name), iri)?;
+            push_word(out, &name)
+        }
         None => out.push('-').ok(),
     }
 }
@@ -299,6 +254,7 @@ fn read_column(alloc: Global, base: &Base, iri: &Iri) -> Option<Option<ColumnNam
 fn push_column(alloc: Global, out: &mut String, base: &Base, iri: &Iri) -> Option<()> {
     match read_column(alloc, base, iri)? {
         Some(name) => {
+            same(alloc, &name, column(alloc, base, &name), iri)?;
             push_word(out, &name.table)?;
             push_word(out, &name.column)
         }
@@ -320,6 +276,7 @@ fn push_columns(out: &mut String, columns: &[Text]) -> Option<()> {
 fn push_reference(alloc: Global, out: &mut String, base: &Base, iri: &Iri) -> Option<()> {
     match read_reference(alloc, base, iri)? {
         Some(name) => {
+            same(alloc, &name, reference(alloc, base, &name), iri)?;
             push_word(out, &name.table)?;
             push_columns(out, name.columns.as_slice())
         }
@@ -341,12 +298,15 @@ fn push_sides(out: &mut String, name: &RelName) -> Option<()> {
 
 fn push_relation(alloc: Global, out: &mut String, base: &Base, iri: &Iri) -> Option<()> {
     match read_relation(alloc, base, iri)? {
-        Some(name) => push_sides(out, &name),
+        Some(name) => {
+            same(alloc, &name, relation(alloc, base, &name), iri)?;
+            push_sides(out, &name)
+        }
         None => out.push('-').ok(),
     }
 }
 
-// What the readers of tables, columns, references and relations tell, those of these letters.
+// What the readers of tables, columns, references and relations tell, those of these letters, if each name spells the IRI.
 fn push_told(alloc: Global, out: &mut String, readers: &str, iri: &Iri) -> Option<()> {
     let base = base(alloc)?;
     for reader in readers.chars() {
@@ -374,7 +334,7 @@ fn is_read(alloc: Global, case: &str) -> bool {
     }
 }
 
-// IRIs, and what the four readers tell: ` ` and a name for each, or `-` for nothing.
+// IRIs, which their names spell, and what the four readers tell: ` ` and a name for each, or `-` for nothing.
 const READ: &str = "http://foo.example/DB/Addresses| Addresses---
 http://foo.example/DB/People| People---
 http://foo.example/DB/Addresses#ID|- Addresses ID--
@@ -417,19 +377,6 @@ fn is_unread(alloc: Global, case: &str) -> bool {
         Some((reader, letters)) => is_text(told(alloc, reader, letters), "-"),
         None => false,
     }
-}
-
-#[test]
-fn read_iris(rt: HostRuntime) -> Result<(), Fail> {
-    for case in READ.lines() {
-        let found = is_read(rt.alloc(), case);
-        assert!(rt; found, "{case}");
-    }
-    for case in UNREAD.lines() {
-        let found = is_unread(rt.alloc(), case);
-        assert!(rt; found, "{case}");
-    }
-    Ok(())
 }
 
 // A type as it is given, and after `|` as a literal keeps it, on each line: nothing, an IRI, or `@` and a tag.
@@ -496,10 +443,17 @@ fn named(alloc: Global, letters: &str) -> Option<Term> {
     Some(Term::Iri(iri(alloc, letters)?))
 }
 
+// Both, or nothing.
+fn two<T: Drop>(first: Option<T>, second: Option<T>) -> Option<(T, T)> {
+    Some((first?, second?))
+}
+
 fn triple(alloc: Global, subject: &str, object: &str) -> Option<Triple> {
-    let subject = term(alloc, subject)?;
-    let object = term(alloc, object)?;
-    Triple::new(subject, iri(alloc, "http://a/p")?, object)
+    let predicate = iri(alloc, "http://a/p")?;
+    match two(term(alloc, subject), term(alloc, object)) {
+        Some((subject, object)) => Triple::new(subject, predicate, object),
+        None => None,
+    }
 }
 
 fn is_term(alloc: Global, found: &Term, letters: &str) -> bool {
@@ -548,36 +502,12 @@ fn one_triple(alloc: Global, object: &str) -> Option<Triples> {
     Some(list)
 }
 
+// A literal is no subject.
 fn is_kept_term(alloc: Global, object: &str) -> bool {
     keeps_terms(alloc, "_:z", object)
+        & (triple(alloc, object, "http://a/o").is_some() == !object.starts_with('"'))
         & is_copied(alloc, term(alloc, object))
         & is_copied(alloc, one_triple(alloc, object))
-}
-
-#[test]
-fn terms(rt: HostRuntime) -> Result<(), Fail> {
-    for case in TYPES.lines() {
-        let found = is_kept_type(rt.alloc(), case);
-        assert!(rt; found, "{case}");
-    }
-    for object in "http://a/o _:t1r1 \"x".split(' ') {
-        let found = is_kept_term(rt.alloc(), object);
-        assert!(rt; found, "{object}");
-    }
-    Ok(())
-}
-
-fn is_subject(alloc: Global, letters: &str) -> bool {
-    triple(alloc, letters, "http://a/o").is_some()
-}
-
-#[test]
-fn subjects(rt: HostRuntime) -> Result<(), Fail> {
-    let found = is_subject(rt.alloc(), "http://a/s");
-    assert!(rt; found);
-    let found = is_subject(rt.alloc(), "\"x");
-    assert!(rt; !found);
-    Ok(())
 }
 
 fn add_var(alloc: Global, vars: &mut Vars, name: &str) -> Option<()> {
@@ -591,37 +521,51 @@ fn vars(alloc: Global) -> Option<Vars> {
     Some(vars)
 }
 
-fn column_name(alloc: Global) -> Option<ColumnName> {
-    let table = text(alloc, "T")?;
-    let column = text(alloc, "a b")?;
-    Some(ColumnName { table, column })
-}
-
-fn reference_name(alloc: Global) -> Option<RefName> {
-    let table = text(alloc, "Q")?;
-    let columns = columns(alloc)?;
-    Some(RefName { table, columns })
-}
-
-fn is_copied_case(alloc: Global, case: u32) -> bool {
+fn is_copied_case(alloc: Global, case: &str) -> bool {
     match case {
-        0 => is_copied(alloc, base(alloc)),
-        1 => is_copied(alloc, iri(alloc, "http://a/é")),
-        2 => is_copied(alloc, row_label_of(alloc)),
-        3 => is_copied(alloc, tag(alloc, "en")),
-        4 => is_copied(alloc, vars(alloc)),
-        5 => is_copied(alloc, column_name(alloc)),
-        6 => is_copied(alloc, reference_name(alloc)),
-        7 => is_copied(alloc, enrolled(alloc)),
+        "base" => is_copied(alloc, base(alloc)),
+        "iri" => is_copied(alloc, iri(alloc, "http://a/é")),
+        "label" => is_copied(alloc, row_label_of(alloc)),
+        "tag" => is_copied(alloc, tag(alloc, "en")),
+        "vars" => is_copied(alloc, vars(alloc)),
         _ => is_copied(alloc, key(alloc, Value::Integer(18))),
     }
 }
 
+// What is asked of each list of cases, what stands between them, and the cases.
+const CASES: [(char, char, &str); 9] = [
+    ('w', '|', WORDS),
+    ('f', '\n', FORMS),
+    ('n', '\n', NAMED),
+    ('k', '\n', ROWS),
+    ('r', '\n', READ),
+    ('u', '\n', UNREAD),
+    ('t', '\n', TYPES),
+    ('o', ' ', "http://a/o _:t1r1 \"x"),
+    ('c', ' ', "base iri label tag vars key"),
+];
+
+fn is_case(alloc: Global, question: char, case: &str) -> bool {
+    match question {
+        'w' => is_told(alloc, case),
+        'f' => is_pair(alloc, case),
+        'n' => is_named(alloc, case),
+        'k' => is_row(alloc, case),
+        'r' => is_read(alloc, case),
+        'u' => is_unread(alloc, case),
+        't' => is_kept_type(alloc, case),
+        'o' => is_kept_term(alloc, case),
+        _ => is_copied_case(alloc, case),
+    }
+}
+
 #[test]
-fn copies(rt: HostRuntime) -> Result<(), Fail> {
-    for case in 0..9 {
-        let found = is_copied_case(rt.alloc(), case);
-        assert!(rt; found, "{case}");
+fn names_and_terms(rt: HostRuntime) -> Result<(), Fail> {
+    for (question, between, cases) in CASES {
+        for case in cases.split(between) {
+            let found = is_case(rt.alloc(), question, case);
+            assert!(rt; found, "{question} {case}");
+        }
     }
     Ok(())
 }
