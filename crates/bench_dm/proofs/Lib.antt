@@ -1,0 +1,4 @@
+pub mod Texts
+pub mod AcceptedDrafts
+pub mod GeneratedRows
+pub mod GeneratedKeys
