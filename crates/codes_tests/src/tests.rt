@@ -511,3 +511,38 @@ fn faults(rt: HostRuntime) -> Result<(), Fail> {
     }
     Ok(())
 }
+
+// A text with as many parts as this, each with its number in it.
+fn numbered(alloc: Global, before: &str, after: &str, count: u64) -> Result<String, AllocError> {
+    let mut text = String::new(alloc);
+    for number in 0..count {
+        let part = format!(in alloc; "{before}{number}{after}")?;
+        text.push_str(part.as_str())?;
+    }
+    Ok(text)
+}
+
+// Whether `check` of these statements ends so.
+fn is_schema_so(alloc: Global, statements: &str, ending: &str) -> Result<bool, Fail> {
+    let input = format!(in alloc;
+        "dbrdf check d\n+ d/schema.sql\n{statements}\n! 1 dbrdf: refused {ending}\n"
+    )?;
+    ends_so(alloc, input.as_str(), 0, 0, 0)
+}
+
+#[test]
+fn tables(rt: HostRuntime) -> Result<(), Fail> {
+    let alloc = rt.alloc();
+    let statements = numbered(alloc, "CREATE TABLE T", " (a INT);\n", 4097)?;
+    assert!(rt; is_schema_so(alloc, statements.as_str(), "13 TooManyTables")?);
+    Ok(())
+}
+
+#[test]
+fn columns(rt: HostRuntime) -> Result<(), Fail> {
+    let alloc = rt.alloc();
+    let columns = numbered(alloc, ", c", " INT", 256)?;
+    let statement = format!(in alloc; "CREATE TABLE T (a INT{columns});")?;
+    assert!(rt; is_schema_so(alloc, statement.as_str(), "14 TooManyColumns table 1")?);
+    Ok(())
+}
