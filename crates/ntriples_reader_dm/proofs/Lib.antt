@@ -1,6 +1,7 @@
 pub mod Behind
 pub mod Cuts
 pub mod Exact
+pub mod Fronts
 pub mod Labels
 pub mod Longest
 pub mod OneAnswer

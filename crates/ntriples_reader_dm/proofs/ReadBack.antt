@@ -32,21 +32,21 @@ use Rattle.ntriples_reader_dm.proofs.Written.{line_stands}
 
 -- ---- the bytes of a line
 
-iri_bytes : (iri rest : List ℕ) → encode_utf8_all (iri_chars iri rest) ≡ iri_text iri ++ encode_utf8_all rest
+pub iri_bytes : (iri rest : List ℕ) → encode_utf8_all (iri_chars iri rest) ≡ iri_text iri ++ encode_utf8_all rest
 unfolding encode_utf8
 iri_bytes iri rest = ap (λ x. 60 ∷ x) (encodes-append iri (62 ∷ rest) ∙ sym (append_assoc (encode_utf8_all iri) (62 ∷ []) (encode_utf8_all rest)))
 
-type_bytes : (k : LiteralType) (rest : List ℕ) → encode_utf8_all (type_chars k rest) ≡ type_text k ++ encode_utf8_all rest
+pub type_bytes : (k : LiteralType) (rest : List ℕ) → encode_utf8_all (type_chars k rest) ≡ type_text k ++ encode_utf8_all rest
 unfolding encode_utf8
 type_bytes Plain rest = refl
 type_bytes (Typed d) rest = ap (λ x. 94 ∷ 94 ∷ x) (iri_bytes d rest)
 type_bytes (Tagged t) rest = ap (λ x. 64 ∷ x) (encodes-append t rest)
 
-quoted_bytes : (text rest more : List ℕ) → encode_utf8_all rest ≡ more → encode_utf8_all (flat_map escaped text ++ 34 ∷ rest) ≡ quoted_text text ++ 34 ∷ more
+pub quoted_bytes : (text rest more : List ℕ) → encode_utf8_all rest ≡ more → encode_utf8_all (flat_map escaped text ++ 34 ∷ rest) ≡ quoted_text text ++ 34 ∷ more
 unfolding encode_utf8
 quoted_bytes text rest more e = encodes-append (flat_map escaped text) (34 ∷ rest) ∙ ap (λ x. quoted_text text ++ 34 ∷ x) e
 
-term_bytes : (o : Term) (rest : List ℕ) → encode_utf8_all (term_chars o rest) ≡ term_text o ++ encode_utf8_all rest
+pub term_bytes : (o : Term) (rest : List ℕ) → encode_utf8_all (term_chars o rest) ≡ term_text o ++ encode_utf8_all rest
 unfolding encode_utf8
 term_bytes (term.Iri iri) rest = iri_bytes iri rest
 term_bytes (term.Blank l) rest = ap (λ x. 95 ∷ 58 ∷ x) (encodes-append l rest)
@@ -217,11 +217,11 @@ bytes_no_end (c ∷ cs) e =
 
 -- ---- scalar values
 
-scalars_both : (xs ys : List ℕ) → IsText xs → IsText ys → IsText (xs ++ ys)
+pub scalars_both : (xs ys : List ℕ) → IsText xs → IsText ys → IsText (xs ++ ys)
 scalars_both [] ys e f = f
 scalars_both (x ∷ xs) ys e f = let h = both_of (scalar x) (all_scalars xs) e in and_true (scalar x) (all_scalars (xs ++ ys)) h.0 (scalars_both xs ys h.1 f)
 
-escaped_scalars : (c : ℕ) → scalar c ≡ true → IsText (escaped c)
+pub escaped_scalars : (c : ℕ) → scalar c ≡ true → IsText (escaped c)
 unfolding escaped
 escaped_scalars c e = elim (cases_Bool (c == 34)) [
   | inl hit ↦ rw hit refl
@@ -237,19 +237,19 @@ escaped_scalars c e = elim (cases_Bool (c == 34)) [
   ])
 ]
 
-quoted_scalars : (text : List ℕ) → IsText text → IsText (flat_map escaped text)
+pub quoted_scalars : (text : List ℕ) → IsText text → IsText (flat_map escaped text)
 quoted_scalars [] e = refl
 quoted_scalars (c ∷ cs) e = let h = both_of (scalar c) (all_scalars cs) e in scalars_both (escaped c) (flat_map escaped cs) (escaped_scalars c h.0) (quoted_scalars cs h.1)
 
-iri_scalars : (iri rest : List ℕ) → IsIri iri → IsText rest → IsText (iri_chars iri rest)
+pub iri_scalars : (iri rest : List ℕ) → IsIri iri → IsText rest → IsText (iri_chars iri rest)
 iri_scalars iri rest h f = scalars_both iri (62 ∷ rest) h.1 f
 
-type_scalars : (k : LiteralType) (rest : List ℕ) → IsLawfulType k → IsText rest → IsText (type_chars k rest)
+pub type_scalars : (k : LiteralType) (rest : List ℕ) → IsLawfulType k → IsText rest → IsText (type_chars k rest)
 type_scalars Plain rest h f = f
 type_scalars (Typed d) rest h f = iri_scalars d rest h.0 f
 type_scalars (Tagged t) rest h f = scalars_both t rest h.1 f
 
-term_scalars : (o : Term) (rest : List ℕ) → IsLawfulTerm o → IsText rest → IsText (term_chars o rest)
+pub term_scalars : (o : Term) (rest : List ℕ) → IsLawfulTerm o → IsText rest → IsText (term_chars o rest)
 term_scalars (term.Iri iri) rest h f = iri_scalars iri rest h f
 term_scalars (term.Blank l) rest h f = scalars_both l rest h.1 f
 term_scalars (term.Literal v) rest h f = scalars_both (flat_map escaped v.text) (34 ∷ type_chars v.kind rest) (quoted_scalars v.text h.0) (type_scalars v.kind rest h.1 f)

@@ -23,11 +23,11 @@ iri_unblank : Unblank iri_at
 unfolding iri_at
 iri_unblank = unblank iri_at (λ ts. refl) (λ ts. refl)
 
-tag_unblank : Unblank tagged_at
+pub tag_unblank : Unblank tagged_at
 unfolding tag_at
 tag_unblank = unblank tagged_at (λ ts. refl) (λ ts. refl)
 
-typed_unblank : Unblank typed_at
+pub typed_unblank : Unblank typed_at
 typed_unblank = unblank typed_at (λ ts. refl) (λ ts. refl)
 
 subject_unblank : Unblank subject_at
@@ -44,26 +44,26 @@ triple_unblank = unblank triple_at (λ ts. refl) (λ ts. refl)
 
 -- ---- the type of a literal
 
-abbrev typed : List ℕ → List ℕ → LiteralType → Type 0
+abbrev pub typed : List ℕ → List ℕ → LiteralType → Type 0
 typed = part.then (sign 94) (λ _. part.then (sign 94) (λ _. part.then blanks (λ _. part.then iri_ref (λ iri. give (Typed iri)))))
 
-abbrev tagged : List ℕ → List ℕ → LiteralType → Type 0
+abbrev pub tagged : List ℕ → List ℕ → LiteralType → Type 0
 tagged = part.then tag (λ t. give (Tagged t))
 
-typed_exact : Exact typed typed_at
+pub typed_exact : Exact typed typed_at
 typed_exact =
     sign_then 94 (part.then (sign 94) (λ _. part.then blanks (λ _. part.then iri_ref (λ iri. give (Typed iri))))) (λ a. behind 94 a >>= λ b. through (λ iri. Typed iri) (iri_at (skip b)))
     (sign_then 94 (part.then blanks (λ _. part.then iri_ref (λ iri. give (Typed iri)))) (λ b. through (λ iri. Typed iri) (iri_at (skip b)))
     (blanks_then (part.then iri_ref (λ iri. give (Typed iri))) (λ ts. through (λ iri. Typed iri) (iri_at ts)) (through_exact (λ iri. Typed iri) iri_ref iri_at iri_exact)
     (unblank_bind iri_at (λ x. Some (pair (Typed x.0) x.1)) iri_unblank)))
 
-tagged_exact : Exact tagged tagged_at
+pub tagged_exact : Exact tagged tagged_at
 tagged_exact = through_exact (λ t. Tagged t) tag tag_at tag_exact
 
-typed_heads : Heads typed_at 94
+pub typed_heads : Heads typed_at 94
 typed_heads = sign_heads 94 (λ a. behind 94 a >>= λ b. through (λ iri. Typed iri) (iri_at (skip b)))
 
-tagged_heads : Heads tagged_at 64
+pub tagged_heads : Heads tagged_at 64
 unfolding tag_at
 tagged_heads ts y e =
     let h = bind_some (behind 64 ts >>= tag_text) (λ (x : List ℕ × List ℕ). Some (pair (Tagged x.0) x.1)) y e in

@@ -29,20 +29,20 @@ or_parts : (a b : Bool) → (a || b) ≡ false → (a ≡ false) × (b ≡ false
 or_parts true b e = absurd cc
 or_parts false b e = (refl, e)
 
-iri_repeats : (iri rest : List ℕ) → list_any is_forbidden iri ≡ false → Repeats iri_character (iri ++ rest) rest iri
+pub iri_repeats : (iri rest : List ℕ) → list_any is_forbidden iri ≡ false → Repeats iri_character (iri ++ rest) rest iri
 iri_repeats [] rest e = no_repeat
 iri_repeats (c ∷ iri) rest e =
     let h = or_parts (is_forbidden c) (list_any is_forbidden iri) e in
     one_more {mid = iri ++ rest} (inl refl, ap not h.0) (iri_repeats iri rest h.1)
 
-iri_stands : (iri rest : List ℕ) → is_iri iri ≡ true → iri_ref (60 ∷ (iri ++ 62 ∷ rest)) rest iri
+pub iri_stands : (iri rest : List ℕ) → is_iri iri ≡ true → iri_ref (60 ∷ (iri ++ 62 ∷ rest)) rest iri
 unfolding is_iri iri_ref
 iri_stands iri rest e = (iri ++ 62 ∷ rest, tt, refl, (62 ∷ rest, iri, iri_repeats iri (62 ∷ rest) (not_true (list_any is_forbidden iri) e), (rest, tt, refl, (refl, refl))))
 
 escape_stands : (c letter : ℕ) (rest : List ℕ) → text_character (92 ∷ letter ∷ rest) rest c → (us : List ℕ) → us ≡ 92 ∷ letter ∷ [] → text_character (us ++ rest) rest c
 escape_stands c letter rest p us e = subst (λ (vs : List ℕ). text_character (vs ++ rest) rest c) (sym e) p
 
-text_stands : (c : ℕ) (rest : List ℕ) → text_character (escaped c ++ rest) rest c
+pub text_stands : (c : ℕ) (rest : List ℕ) → text_character (escaped c ++ rest) rest c
 unfolding escaped echar
 text_stands c rest = elim (cases_Bool (c == 34)) [
   | inl quote ↦ rw quote (inr (inl (34 ∷ rest, tt, refl, (34, refl, ap (λ x. Some x) (sym (eqb-true c 34 quote))))))
@@ -58,13 +58,13 @@ text_stands c rest = elim (cases_Bool (c == 34)) [
   ])
 ]
 
-text_repeats : (text rest : List ℕ) → Repeats text_character (flat_map escaped text ++ rest) rest text
+pub text_repeats : (text rest : List ℕ) → Repeats text_character (flat_map escaped text ++ rest) rest text
 text_repeats [] rest = no_repeat
 text_repeats (c ∷ text) rest =
     subst (λ (us : List ℕ). Repeats text_character us rest (c ∷ text)) (sym (append_assoc (escaped c) (flat_map escaped text) rest))
     (one_more {mid = flat_map escaped text ++ rest} (text_stands c (flat_map escaped text ++ rest)) (text_repeats text rest))
 
-quoted_stands : (text rest : List ℕ) → quoted (34 ∷ (flat_map escaped text ++ 34 ∷ rest)) rest text
+pub quoted_stands : (text rest : List ℕ) → quoted (34 ∷ (flat_map escaped text ++ 34 ∷ rest)) rest text
 unfolding quoted
 quoted_stands text rest = (flat_map escaped text ++ 34 ∷ rest, tt, refl, (34 ∷ rest, text, text_repeats text (34 ∷ rest), (rest, tt, refl, (refl, refl))))
 
@@ -79,36 +79,36 @@ label_stops (c ∷ cs) ms e f =
     let q = all_behind continues_label cs (32 ∷ ms) (both_of (begins_label c) (list_all continues_label (cs ++ 32 ∷ ms)) p.0).1 in
     true_false (continues_label 32) (both_of (continues_label 32) (list_all continues_label ms) q).0 no_space
 
-tag_space : (first empty : Bool) (cs ms : List ℕ) → rest_is_tag first empty (cs ++ 32 ∷ ms) ≡ true → ⊥
+pub tag_space : (first empty : Bool) (cs ms : List ℕ) → rest_is_tag first empty (cs ++ 32 ∷ ms) ≡ true → ⊥
 tag_space true empty [] ms e = absurd cc
 tag_space false empty [] ms e = absurd cc
 tag_space first empty (c ∷ cs) ms e =
     tag_space (first && not (c == 45)) (c == 45) cs ms
     (both_of ((((c == 45) && not empty) || (not (c == 45) && ((first && is_ascii_letter c) || (not first && is_letter_or_digit c))))) (rest_is_tag (first && not (c == 45)) (c == 45) (cs ++ 32 ∷ ms)) e).1
 
-space_only : (rule : List ℕ → Bool) (text rest : List ℕ) → ((ms : List ℕ) → rule (text ++ 32 ∷ ms) ≡ true → ⊥) → (more behind : List ℕ) → 32 ∷ rest ≡ more ++ behind → rule (text ++ more) ≡ true → more ≡ []
+pub space_only : (rule : List ℕ → Bool) (text rest : List ℕ) → ((ms : List ℕ) → rule (text ++ 32 ∷ ms) ≡ true → ⊥) → (more behind : List ℕ) → 32 ∷ rest ≡ more ++ behind → rule (text ++ more) ≡ true → more ≡ []
 space_only rule text rest stops [] behind w k = refl
 space_only rule text rest stops (m ∷ ms) behind w k =
     let same : m ≡ 32 = cc in
     absurd (stops ms (sym (ap (λ x. rule (text ++ x ∷ ms)) same) ∙ k))
 
-before_space : (rule : List ℕ → Bool) (text rest : List ℕ) → rule text ≡ true → ((ms : List ℕ) → rule (text ++ 32 ∷ ms) ≡ true → ⊥) → IsLongest rule (text ++ 32 ∷ rest) (32 ∷ rest) text
+pub before_space : (rule : List ℕ → Bool) (text rest : List ℕ) → rule text ≡ true → ((ms : List ℕ) → rule (text ++ 32 ∷ ms) ≡ true → ⊥) → IsLongest rule (text ++ 32 ∷ rest) (32 ∷ rest) text
 before_space rule text rest e stops = record { stands = refl; allowed = e; longest = λ more behind w k. space_only rule text rest stops more behind w k }
 
 label_stands : (text rest : List ℕ) → is_label text ≡ true → label (95 ∷ 58 ∷ (text ++ 32 ∷ rest)) (32 ∷ rest) text
 unfolding label
 label_stands text rest e = (58 ∷ (text ++ 32 ∷ rest), tt, refl, (text ++ 32 ∷ rest, tt, refl, before_space is_label text rest e (λ ms k. label_stops text ms k e)))
 
-tag_stands : (text rest : List ℕ) → is_tag text ≡ true → tag (64 ∷ (text ++ 32 ∷ rest)) (32 ∷ rest) text
+pub tag_stands : (text rest : List ℕ) → is_tag text ≡ true → tag (64 ∷ (text ++ 32 ∷ rest)) (32 ∷ rest) text
 unfolding tag
 tag_stands text rest e = (text ++ 32 ∷ rest, tt, refl, before_space is_tag text rest e (λ ms k. tag_space true true text ms (is_tag-from_loop (text ++ 32 ∷ ms) ∙ k)))
 
 -- ---- whole lines
 
-one_space : (rest : List ℕ) → blanks (32 ∷ rest) rest tt
+pub one_space : (rest : List ℕ) → blanks (32 ∷ rest) rest tt
 one_space rest = (32 ∷ [], refl, refl)
 
-none : (rest : List ℕ) → blanks rest rest tt
+pub none : (rest : List ℕ) → blanks rest rest tt
 none rest = ([], refl, refl)
 
 subject_stands : (s : Term) (rest : List ℕ) → IsLawfulNode s → subject (term_chars s (32 ∷ rest)) (32 ∷ rest) s
@@ -117,7 +117,7 @@ subject_stands (term.Iri iri) rest h = inl (32 ∷ rest, iri, iri_stands iri (32
 subject_stands (term.Blank l) rest h = inr (32 ∷ rest, l, label_stands l rest h.0, (refl, refl))
 subject_stands (term.Literal v) rest h = absurd h
 
-type_stands : (k : LiteralType) (rest : List ℕ) → IsLawfulType k → literal_type (type_chars k (32 ∷ rest)) (32 ∷ rest) k
+pub type_stands : (k : LiteralType) (rest : List ℕ) → IsLawfulType k → literal_type (type_chars k (32 ∷ rest)) (32 ∷ rest) k
 unfolding literal_type
 type_stands Plain rest h = inl (refl, refl)
 type_stands (Typed d) rest h =
@@ -147,7 +147,7 @@ type_stands (Tagged t) rest h = inr (inr (64 ∷ (t ++ 32 ∷ rest), tt, none (6
 abbrev literal_by : List ℕ → LiteralType → Bool → LiteralValue
 literal_by text k b = record { text = text; kind = if b then Plain else k }
 
-normal : (text : List ℕ) (k : LiteralType) → IsLawfulType k → record { text = text; kind = k } ≡ literal_of text k
+pub normal : (text : List ℕ) (k : LiteralType) → IsLawfulType k → record { text = text; kind = k } ≡ literal_of text k
 normal text Plain h = refl
 normal text (Tagged t) h = refl
 normal text (Typed d) h = sym (ap (λ (b : Bool). literal_by text (Typed d) b) h.1)

@@ -1,6 +1,6 @@
 -- Reading a line from left to right: the value of a part and the characters behind it, or nothing.
 use Rattle.std.specs.Prelude.{ℕ, ◌+◌, ◌*◌, ◌==◌, ◌||◌, ◌&&◌, zero, suc, List, [], ◌∷◌, Option, Some, None, Bool, true, false, not, length, if◌then◌else◌}
-use Rattle.names_dm.specs.Literals.{literal_of}
+use Rattle.names_dm.specs.Literals.{LiteralValue, literal_of}
 use Rattle.names_dm.specs.Statements.{Statement}
 use Rattle.names_dm.specs.Terminals.{is_forbidden, begins_label, continues_label, is_letter_or_digit}
 use Rattle.names_dm.specs.Characters.{is_ascii_letter}
@@ -138,6 +138,21 @@ type_at ts = if begins 94 ts then typed_at ts else (if begins 64 ts then tagged_
 
 unfoldable pub literal_at : List ℕ → Read Term
 literal_at ts = quoted_at ts >>= λ x. through (λ kind. term.Literal (literal_of x.0 kind)) (type_at (skip x.1))
+
+-- behind the quotes of a literal the longest type: a datatype, a tag, or none
+abbrev pub written_type : List ℕ → Read LiteralType
+written_type ts = if begins 94 ts then typed_at ts else tagged_at ts
+
+abbrev pub or_plain : List ℕ → Read LiteralType → LiteralType × List ℕ
+or_plain ts None = (Plain, ts)
+or_plain ts (Some x) = x
+
+unfoldable pub longest_type : List ℕ → LiteralType × List ℕ
+longest_type ts = or_plain ts (written_type (skip ts))
+
+-- the longest literal
+unfoldable pub longest_literal : List ℕ → Read LiteralValue
+longest_literal ts = quoted_at ts >>= λ x. Some (literal_of x.0 (longest_type x.1).0, (longest_type x.1).1)
 
 unfoldable pub subject_at : List ℕ → Read Term
 subject_at ts = if begins 60 ts then through (λ iri. term.Iri iri) (iri_at ts) else through (λ l. term.Blank l) (label_at ts)

@@ -5,7 +5,8 @@ ghost use Rattle.ntriples_reader_dm.specs.Lawful.{IsIri, IsLabel, IsTag, IsLawfu
 
 use names_dm::{Iri, Label, Literal, LiteralType, Tag, Term, Triple};
 
-fn lawful_iri(iri: &Iri)
+/// The text of an IRI is an IRI's. The call does nothing; its clause is the law.
+pub fn lawful_iri(iri: &Iri)
     ensures { IsIri iri.now }
 {
     let _characters = iri.as_str();
@@ -34,7 +35,8 @@ fn lawful_type(kind: &LiteralType)
     }
 }
 
-fn lawful_literal(literal: &Literal)
+/// The texts of a literal are of their types. The call does nothing; its clause is the law.
+pub fn lawful_literal(literal: &Literal)
     ensures { IsLawfulTerm (Term.Literal literal.now) }
 {
     let _characters = literal.text().as_str();

@@ -14,8 +14,13 @@ use names_dm::{Literal, LiteralType, Term, Triple};
 use std::alloc::Global;
 use value_dm::Text;
 
+/// A text in quotes.
 #[tactic(auto, unfolding(crate::specs::Reading::quoted_at))]
-fn quoted<'a>(alloc: Global, classes: &Classes, text: &'a str) -> Result<(Text, &'a str), LineFault>
+pub(crate) fn quoted<'a>(
+    alloc: Global,
+    classes: &Classes,
+    text: &'a str,
+) -> Result<(Text, &'a str), LineFault>
     requires { AreClasses classes.now }
     ensures seen { Gives (λ x. (x.0, chars x.1.now)) result (quoted_at (chars text.now)) }
     ensures utf8 { IfOk result (λ x. IsUtf8 x.1.now) }
@@ -24,7 +29,8 @@ fn quoted<'a>(alloc: Global, classes: &Classes, text: &'a str) -> Result<(Text, 
     inside(alloc, Kind::Quoted, &classes.quoted, rest)
 }
 
-fn typed<'a>(
+/// `^^` and a datatype.
+pub(crate) fn typed<'a>(
     alloc: Global,
     classes: &Classes,
     text: &'a str,
@@ -39,7 +45,8 @@ fn typed<'a>(
     Ok((LiteralType::Typed(datatype), rest))
 }
 
-fn tagged(alloc: Global, text: &str) -> Result<(LiteralType, &str), LineFault>
+/// A tag with its `@`.
+pub(crate) fn tagged(alloc: Global, text: &str) -> Result<(LiteralType, &str), LineFault>
     ensures seen { Gives (λ x. (x.0, chars x.1.now)) result (tagged_at (chars text.now)) }
     ensures utf8 { IfOk result (λ x. IsUtf8 x.1.now) }
 {

@@ -1,4 +1,4 @@
-use grids_dm::{Grid, GridRow};
+use grids_dm::Grid;
 use names_dm::{Iri, Literal, LiteralType, Term, Triple, Triples, Var, Vars};
 use pattern_dm::{Condition, Operand, Pattern, answer_grid, is_well_formed, solve, sparql_text};
 use solutions_dm::{Rename, Renames};
@@ -6,6 +6,7 @@ use sqlite_items::Boxed;
 use std::alloc::Global;
 use std::test::Fail;
 use store_dm::Graph;
+use tsv_dm::tsv;
 use value_dm::{Text, TryCopy};
 
 // A term is written in one word: `?x` is a variable, `"x` the literal x, and any other word w the IRI <http://a/w>.
@@ -67,17 +68,24 @@ fn operand(alloc: Global, word: &str) -> Option<Operand> {
     }
 }
 
+// Both, or nothing.
+fn two<T: Drop>(first: Option<T>, second: Option<T>) -> Option<(T, T)> {
+    Some((first?, second?))
+}
+
+// All three, or nothing.
+fn three<T: Drop>(first: Option<T>, second: Option<T>, third: Option<T>) -> Option<(T, T, T)> {
+    Some((first?, second?, third?))
+}
+
 fn triple_of(alloc: Global, s: &str, p: &str, o: &str) -> Option<Pattern> {
-    let s = operand(alloc, s)?;
-    let p = operand(alloc, p)?;
-    let o = operand(alloc, o)?;
+    let (s, p, o) = three(operand(alloc, s), operand(alloc, p), operand(alloc, o))?;
     Some(Pattern::Triple(s, p, o))
 }
 
 fn same(alloc: Global, word: &str) -> Option<Condition> {
     let (first, second) = word.split_once('=')?;
-    let first = operand(alloc, first)?;
-    let second = operand(alloc, second)?;
+    let (first, second) = two(operand(alloc, first), operand(alloc, second))?;
     Some(Condition::SameTerm(first, second))
 }
 
@@ -239,146 +247,175 @@ fn grid(alloc: Global, pattern: &Pattern, graph: &Graph, header: &Vars) -> Optio
     }
 }
 
-// The last letter of a term, or a full stop.
-fn letter(cell: &Option<Term>) -> char {
-    match cell {
-        Some(Term::Iri(iri)) => iri.as_str().chars().last().unwrap_or('-'),
-        Some(Term::Literal(literal)) => literal.text().as_str().chars().last().unwrap_or('-'),
-        Some(Term::Blank(_)) => '_',
-        None => '.',
-    }
-}
-
-fn row_text(alloc: Global, row: &GridRow) -> Option<String> {
-    let mut out = String::new(alloc);
-    for cell in row.as_slice() {
-        out.push(letter(cell)).ok()?;
-    }
-    Some(out)
-}
-
-// Each row's text, in the order of texts.
-fn lines(alloc: Global, grid: &Grid) -> Option<Vec<String>> {
-    let mut lines = Vec::new(alloc);
-    for row in grid.as_slice() {
-        lines.push(row_text(alloc, row)?).ok()?;
-    }
-    lines.sort_unstable();
-    Some(lines)
-}
-
-fn answer(alloc: Global, words: &str, names: &str) -> Option<Vec<String>> {
+fn answer(alloc: Global, words: &str, names: &str) -> Option<Vec<u8>> {
     let stack = read(alloc, words)?;
-    let graph = graph(alloc)?;
-    let header = header(alloc, names)?;
-    let grid = grid(alloc, stack.patterns.last()?, &graph, &header)?;
-    lines(alloc, &grid)
+    answer_of(alloc, stack.patterns.last()?, names)
 }
 
-// Whether these are the lines that the text lists, with a space between.
-fn are_lines(lines: &[String], expected: &str) -> bool {
-    let mut words = expected.split(' ');
-    for line in lines {
-        if words.next() != Some(line.as_str()) {
-            return false;
-        }
-    }
-    words.next().unwrap_or("").is_empty()
+fn answer_of(alloc: Global, pattern: &Pattern, names: &str) -> Option<Vec<u8>> {
+    let header = header(alloc, names)?;
+    under(alloc, pattern, &header)
+}
+
+fn under(alloc: Global, pattern: &Pattern, header: &Vars) -> Option<Vec<u8>> {
+    let graph = graph(alloc)?;
+    text_over(alloc, pattern, header, &graph)
+}
+
+fn text_over(alloc: Global, pattern: &Pattern, header: &Vars, graph: &Graph) -> Option<Vec<u8>> {
+    let grid = grid(alloc, pattern, graph, header)?;
+    text_of(alloc, header, &grid)
+}
+
+// The rows as tab separated values, where equal ones stand once, and behind them how many there are.
+fn text_of(alloc: Global, header: &Vars, grid: &Grid) -> Option<Vec<u8>> {
+    let count = grid.len();
+    let digits = format!(in alloc; "{count}").ok()?;
+    let mut text = tsv(alloc, header, grid).ok()?;
+    text.extend_from_slice(digits.as_bytes()).ok()?;
+    Some(text)
 }
 
 fn is_answer(alloc: Global, words: &str, names: &str, expected: &str) -> bool {
     match answer(alloc, words, names) {
-        Some(lines) => are_lines(lines.as_slice(), expected),
+        Some(text) => text.as_slice() == expected.as_bytes(),
         None => false,
     }
 }
 
-// SPARQL 1.1 Query Language, section 18.5. Behind `|` stand the rows, a row the last letters of s, v, w, t and k.
-const PATTERNS: &str = "P Q true LeftJoin|1xz.. 2y...
-P Q Minus|2y...
-P Empty Minus|1x... 2y...
-P R Minus|1x... 2y...
-P Q true LeftJoin R And|1xz1. 2yz1.
-P Q true LeftJoin ?w=\"z not Filter|
-P Q true LeftJoin !w not ?w=\"z or Filter|1xz.. 2y...
-P Q ?v=\"y LeftJoin|1x... 2y...
-P Select:u>k|.....
-P P Union|1x... 2y...
-P Q Union|1.z.. 1x... 2y...
-P Q And|1xz..
-P R And|1xz1. 2yz1.
-P X And|
-P Empty And|1x... 2y...
-A|px... qz...
-X|
-Empty|.....
-P Select:v>v,s>k|.x..1 .y..2";
+// SPARQL 1.1 Query Language, section 18.5: patterns, and the lines of s, v, w, t and k.
+const PATTERNS: [(&str, &str); 19] = [
+    (
+        "P Q true LeftJoin",
+        "<http://a/1>\t\"x\"\t\"z\"\t\t\n<http://a/2>\t\"y\"\t\t\t\n",
+    ),
+    ("P Q Minus", "<http://a/2>\t\"y\"\t\t\t\n"),
+    (
+        "P Empty Minus",
+        "<http://a/1>\t\"x\"\t\t\t\n<http://a/2>\t\"y\"\t\t\t\n",
+    ),
+    (
+        "P R Minus",
+        "<http://a/1>\t\"x\"\t\t\t\n<http://a/2>\t\"y\"\t\t\t\n",
+    ),
+    (
+        "P Q true LeftJoin R And",
+        "<http://a/1>\t\"x\"\t\"z\"\t<http://a/1>\t\n<http://a/2>\t\"y\"\t\"z\"\t<http://a/1>\t\n",
+    ),
+    ("P Q true LeftJoin ?w=\"z not Filter", ""),
+    (
+        "P Q true LeftJoin !w not ?w=\"z or Filter",
+        "<http://a/1>\t\"x\"\t\"z\"\t\t\n<http://a/2>\t\"y\"\t\t\t\n",
+    ),
+    (
+        "P Q ?v=\"y LeftJoin",
+        "<http://a/1>\t\"x\"\t\t\t\n<http://a/2>\t\"y\"\t\t\t\n",
+    ),
+    ("P Select:u>k", "\t\t\t\t\n"),
+    (
+        "P P Union",
+        "<http://a/1>\t\"x\"\t\t\t\n<http://a/2>\t\"y\"\t\t\t\n",
+    ),
+    (
+        "P Q Union",
+        "<http://a/1>\t\t\"z\"\t\t\n<http://a/1>\t\"x\"\t\t\t\n<http://a/2>\t\"y\"\t\t\t\n",
+    ),
+    ("P Q And", "<http://a/1>\t\"x\"\t\"z\"\t\t\n"),
+    (
+        "P R And",
+        "<http://a/1>\t\"x\"\t\"z\"\t<http://a/1>\t\n<http://a/2>\t\"y\"\t\"z\"\t<http://a/1>\t\n",
+    ),
+    ("P X And", ""),
+    (
+        "P Empty And",
+        "<http://a/1>\t\"x\"\t\t\t\n<http://a/2>\t\"y\"\t\t\t\n",
+    ),
+    (
+        "A",
+        "<http://a/p>\t\"x\"\t\t\t\n<http://a/q>\t\"z\"\t\t\t\n",
+    ),
+    ("X", ""),
+    ("Empty", "\t\t\t\t\n"),
+    (
+        "P Select:v>v,s>k",
+        "\t\"x\"\t\t\t<http://a/1>\n\t\"y\"\t\t\t<http://a/2>\n",
+    ),
+];
 
-fn is_pattern(alloc: Global, case: &str) -> bool {
-    match case.split_once('|') {
-        Some((words, rows)) => is_answer(alloc, words, "s v w t k", rows),
-        None => false,
-    }
-}
-
-// Conditions on two rows of which the second has no w, and none has a u; behind `|` the rows for which it is true, and
-// then those for which it is false (SPARQL 1.1 Query Language, section 17.2).
-const CONDITIONS: &str = "true|1 2|
-!v|1 2|
-!w|1|2
-!u||1 2
-?v=\"x|1|2
-\"x=?v|1|2
-?w=\"z|1|
-?w=\"x||1
-?w=\"n||1
-?v=\"n||1 2
-?s=2|2|1
-?v=\"1||1 2
-?v=?v|1 2|
-?w=?w|1|
-?v=?w||1
-?v=?u||
-?u=\"x||
-\"x=\"x|1 2|
-\"x=\"y||1 2
-x=\"x||1 2
-?w=\"z not||1
-!w not|2|1
-?u=\"x not||
-?w=\"z ?v=\"x and|1|2
-?w=\"z ?v=\"y and||1
-?u=\"x ?v=\"x and||2
-?w=\"z ?v=\"y or|1 2|
-?w=\"x ?v=\"x or|1|
-?u=\"x ?v=\"x or|1|
-?w=\"x ?v=\"n or||1";
-
-// Whether these are the rows that are kept where these words stand behind the condition.
-fn are_kept(alloc: Global, condition: &str, behind: &str, rows: &str) -> bool {
-    match format!(in alloc; "P Q true LeftJoin {condition} {behind}") {
-        Ok(words) => is_answer(alloc, words.as_str(), "s", rows),
+fn is_pattern(alloc: Global, words: &str, lines: &str) -> bool {
+    let count = lines.lines().count();
+    match format!(in alloc; "?s\t?v\t?w\t?t\t?k\n{lines}{count}") {
+        Ok(expected) => is_answer(alloc, words, "s v w t k", expected.as_str()),
         Err(_) => false,
     }
 }
 
-fn is_condition(alloc: Global, case: &str) -> Option<bool> {
-    let (condition, rows) = case.split_once('|')?;
-    let (holding, failing) = rows.split_once('|')?;
-    let holds = are_kept(alloc, condition, "Filter", holding);
-    let fails = are_kept(alloc, condition, "not Filter", failing);
-    Some(holds & fails)
+// Conditions on two rows of which the second has no w, and none has a u; the rows for which each is true, and then those for
+// which it is false (SPARQL 1.1 Query Language, section 17.2).
+const CONDITIONS: [(&str, &str, &str); 30] = [
+    ("true", "1 2", ""),
+    ("!v", "1 2", ""),
+    ("!w", "1", "2"),
+    ("!u", "", "1 2"),
+    ("?v=\"x", "1", "2"),
+    ("\"x=?v", "1", "2"),
+    ("?w=\"z", "1", ""),
+    ("?w=\"x", "", "1"),
+    ("?w=\"n", "", "1"),
+    ("?v=\"n", "", "1 2"),
+    ("?s=2", "2", "1"),
+    ("?v=\"1", "", "1 2"),
+    ("?v=?v", "1 2", ""),
+    ("?w=?w", "1", ""),
+    ("?v=?w", "", "1"),
+    ("?v=?u", "", ""),
+    ("?u=\"x", "", ""),
+    ("\"x=\"x", "1 2", ""),
+    ("\"x=\"y", "", "1 2"),
+    ("x=\"x", "", "1 2"),
+    ("?w=\"z not", "", "1"),
+    ("!w not", "2", "1"),
+    ("?u=\"x not", "", ""),
+    ("?w=\"z ?v=\"x and", "1", "2"),
+    ("?w=\"z ?v=\"y and", "", "1"),
+    ("?u=\"x ?v=\"x and", "", "2"),
+    ("?w=\"z ?v=\"y or", "1 2", ""),
+    ("?w=\"x ?v=\"x or", "1", ""),
+    ("?u=\"x ?v=\"x or", "1", ""),
+    ("?w=\"x ?v=\"n or", "", "1"),
+];
+
+fn lines_of(rows: &str) -> &'static str {
+    match rows {
+        "" => "?s\n0",
+        "1" => "?s\n<http://a/1>\n1",
+        "2" => "?s\n<http://a/2>\n1",
+        _ => "?s\n<http://a/1>\n<http://a/2>\n2",
+    }
+}
+
+// Whether these are the rows that are kept where these words stand behind the condition.
+fn are_kept(alloc: Global, condition: &str, behind: &str, rows: &str) -> bool {
+    match format!(in alloc; "P Q true LeftJoin {condition} {behind}") {
+        Ok(words) => is_answer(alloc, words.as_str(), "s", lines_of(rows)),
+        Err(_) => false,
+    }
+}
+
+fn is_condition(alloc: Global, condition: &str, holding: &str, failing: &str) -> bool {
+    are_kept(alloc, condition, "Filter", holding)
+        & are_kept(alloc, condition, "not Filter", failing)
 }
 
 #[test]
 fn solutions(rt: HostRuntime) -> Result<(), Fail> {
-    for case in PATTERNS.lines() {
-        let found = is_pattern(rt.alloc(), case);
-        assert!(rt; found, "{case}");
+    for (words, lines) in PATTERNS {
+        let found = is_pattern(rt.alloc(), words, lines);
+        assert!(rt; found, "{words}");
     }
-    for case in CONDITIONS.lines() {
-        let found = is_condition(rt.alloc(), case);
-        assert!(rt; found == Some(true), "{case}");
+    for (condition, holding, failing) in CONDITIONS {
+        let found = is_condition(rt.alloc(), condition, holding, failing);
+        assert!(rt; found, "{condition}");
     }
     Ok(())
 }
