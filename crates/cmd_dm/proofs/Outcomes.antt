@@ -34,8 +34,13 @@ use Rattle.algebra_dm.specs.declared.error.QueryError.TheVariants as query
 use Rattle.algebra_dm.specs.declared.query.Query.{Query}
 use Rattle.query_text_dm.proofs.OneAnswer.{one_answer as one_read}
 use Rattle.query_lines_dm.proofs.OneText.{query_lines_one}
+use Rattle.pattern_lines_dm.proofs.OneText.{solution_lines_one}
+use Rattle.sparql_text_dm.specs.declared.error.SparqlError.{SparqlError}
+use Rattle.sparql_text_dm.specs.declared.error.SparqlError.TheVariants as sparql
+use Rattle.sparql_text_dm.specs.declared.parsed.Parsed.{Parsed}
+use Rattle.sparql_text_dm.proofs.OneAnswer.{one_answer as one_parsed}
 use Rattle.cmd_dm.proofs.Answered.{answers_one, pattern_text_one}
-use Rattle.cmd_dm.specs.Questions.{Question, AnswerTo, Answers, IsSchemaAnswer, IsRowsAnswer, IsTriplesAnswer, IsQueryAnswer, schema_of, rows_of, triples_of, verdict_of, violations_of, graph_of, batch_of, removals_of, left_of, files_of, inverse_of, query_of, lines_of, pattern_of, answers_of}
+use Rattle.cmd_dm.specs.Questions.{Question, AnswerTo, Answers, IsSchemaAnswer, IsRowsAnswer, IsTriplesAnswer, IsQueryAnswer, IsParsedAnswer, parsed_of, solutions_of, schema_of, rows_of, triples_of, verdict_of, violations_of, graph_of, batch_of, removals_of, left_of, files_of, inverse_of, query_of, lines_of, pattern_of, answers_of}
 use Rattle.outside_dm.specs.Storing.{Batch}
 use Rattle.schema_dm.specs.declared.table.ShapeTable.{ShapeTable}
 use Rattle.table_csv.proofs.OneText.{text_one}
@@ -46,7 +51,7 @@ use Rattle.append_dm.specs.Appended.{appended}
 use Rattle.cmd_dm.specs.Folder.{AreFilesOf}
 use Rattle.cmd_dm.proofs.Batches.{batch_text_unique}
 use Rattle.cmd_dm.proofs.Inverses.{inverse_answer_unique}
-use Rattle.cmd_dm.specs.Reasons.{ddl_status, graph_status, query_status, table_status}
+use Rattle.cmd_dm.specs.Reasons.{ddl_status, graph_status, query_status, sparql_status, table_status}
 use Rattle.cmd_dm.specs.Script.{Script, Outcome, too_long, load, ask, refuse, write, AfterLoad, Comes}
 use Rattle.cmd_dm.specs.declared.status.File.{File}
 use Rattle.cmd_dm.specs.declared.status.Reason.{Reason}
@@ -171,6 +176,40 @@ query_answer_unique tables bytes (Err r) (Err s) h k =
     faults_one : (e f : QueryError) → ◌≡◌ {A = Asked} (Err e) (Err f) → e ≡ f
     faults_one e f same = cc
 
+-- ---- patterns
+
+abbrev ReadPattern : Type 0
+ReadPattern = Result Parsed SparqlError
+
+told_parsed : (error : SparqlError) (reason : Reason) → sparql_status error ≡ Refused reason → ¬ (◌≡◌ {A = ReadPattern} (Err error) (Err sparql.Memory))
+told_parsed error reason told memory = no_refusal reason (sym (ap sparql_status (faults_one error sparql.Memory memory)) ∙ told)
+  where
+    faults_one : (e f : SparqlError) → ◌≡◌ {A = ReadPattern} (Err e) (Err f) → e ≡ f
+    faults_one e f same = cc
+
+parsed_told : (parsed : Parsed) → ¬ (◌≡◌ {A = ReadPattern} (Ok parsed) (Err sparql.Memory))
+parsed_told parsed e = absurd cc
+
+no_parsed : (bytes : List ℕ) (parsed : Parsed) (reason : Reason) → IsParsedAnswer bytes (Ok parsed) → IsParsedAnswer bytes (Err reason) → ⊥
+no_parsed bytes parsed reason h k = apart parsed k.0 (one_parsed bytes (Ok parsed) (Err k.0) (parsed_told parsed) (told_parsed k.0 reason k.2) h k.1)
+  where
+    apart : (p : Parsed) (e : SparqlError) → ◌≡◌ {A = ReadPattern} (Ok p) (Err e) → ⊥
+    apart p e same = cc
+
+pub parsed_answer_unique : (bytes : List ℕ) (a b : Result Parsed Reason) → IsParsedAnswer bytes a → IsParsedAnswer bytes b → a ≡ b
+parsed_answer_unique bytes (Ok p) (Ok q) h k = ap Ok (parsed_one p q (one_parsed bytes (Ok p) (Ok q) (parsed_told p) (parsed_told q) h k))
+  where
+    parsed_one : (p q : Parsed) → ◌≡◌ {A = ReadPattern} (Ok p) (Ok q) → p ≡ q
+    parsed_one p q e = cc
+parsed_answer_unique bytes (Ok p) (Err r) h k = absurd (no_parsed bytes p r h k)
+parsed_answer_unique bytes (Err r) (Ok q) h k = absurd (no_parsed bytes q r k h)
+parsed_answer_unique bytes (Err r) (Err s) h k =
+    let same = faults_one h.0 k.0 (one_parsed bytes (Err h.0) (Err k.0) (told_parsed h.0 r h.2) (told_parsed k.0 s k.2) h.1 k.1) in
+    ap Err (refusal_one r s (sym h.2 ∙ ap sparql_status same ∙ k.2))
+  where
+    faults_one : (e f : SparqlError) → ◌≡◌ {A = ReadPattern} (Err e) (Err f) → e ≡ f
+    faults_one e f same = cc
+
 -- ---- files
 
 pub files_one : (folder : List ℕ) (tables : List ShapeTable) (rows : List (List Row)) (a b : Batch) → AreFilesOf folder tables rows a → AreFilesOf folder tables rows b → a ≡ b
@@ -208,6 +247,8 @@ answer_unique (query_of tables bytes) a b h k = query_answer_unique tables bytes
 answer_unique (lines_of D q) a b h k = query_lines_one D q a b h k
 answer_unique (pattern_of mode base tables q) a b h k = pattern_text_one mode base tables q h.0 a b h.1 k.1
 answer_unique (answers_of mode base tables q triples) a b h k = answers_one mode base tables q h.0 triples a b h.1 k.1
+answer_unique (parsed_of bytes) a b h k = parsed_answer_unique bytes a b h k
+answer_unique (solutions_of parsed triples) a b h k = solution_lines_one triples parsed.pattern parsed.header a b h k
 
 after_load_unique : (file : File) (content : Option (List ℕ)) (rest : List ℕ → Outcome → Type 0) →
     ((bytes : List ℕ) (o p : Outcome) → rest bytes o → rest bytes p → o ≡ p) →

@@ -71,6 +71,12 @@ use Rattle.cmd_dm.specs.Check.{check_script, check_text}
 use Rattle.cmd_dm.specs.Consistent.{consistent_script, verdict_text}
 use Rattle.cmd_dm.specs.Rows.{rows_script}
 use Rattle.cmd_dm.specs.Show.{show_script}
+use Rattle.cmd_dm.specs.Sparql.{solutions_script, sparql_script}
+use Rattle.pattern_lines_dm.specs.Lines.{AreSolutionLines}
+use Rattle.sparql_text_dm.specs.Answer.{IsAnswer as IsParsedAs}
+use Rattle.sparql_text_dm.specs.declared.error.SparqlError.{SparqlError}
+use Rattle.sparql_text_dm.specs.declared.error.SparqlError.TheVariants as sparql
+use Rattle.sparql_text_dm.specs.declared.parsed.Parsed.{Parsed}
 use Rattle.cmd_dm.specs.GraphScript.{graph_script}
 use Rattle.cmd_dm.specs.Ending.{Ends, NoFault, Target, to_output, to_both, to_shelf}
 use Rattle.cmd_dm.specs.Invert.{files_work, invert_script}
@@ -78,22 +84,22 @@ use Rattle.cmd_dm.proofs.Inverses.{inverse_answer_unique, inverse_files, files_s
 use Rattle.cmd_dm.proofs.StoredTables.{are_stored}
 use Rattle.cmd_dm.proofs.PlainLimits.{plain_within}
 use Rattle.cmd_dm.specs.Folder.{schema_file, table_file, shape_of}
-use Rattle.cmd_dm.specs.Headline.{HoldsFile, HoldsTables, HoldsDatabase, EndsSo, WritesText, WritesKept, WritesFolder, Checks, Shows, Judges, Promises, Cleans, IsCleanWork, TellsKeys, Inverts, StoresTables, AreStored, GivesBack, IsGraphFile, AnswersOver, AnswersQuery, HoldsQuestion, RefusesFault, WritesAnswer, WritesBatch}
-use Rattle.cmd_dm.specs.Plans.{IsOutcome, NamesFile, ask_file, folder_file, graph_file, plan_of, rows_file}
-use Rattle.cmd_dm.specs.Questions.{IsInverseAnswer, IsQueryAnswer, answers_of, batch_of, lines_of, violations_of, verdict_of, graph_of, removals_of, left_of, files_of}
+use Rattle.cmd_dm.specs.Headline.{HoldsFile, HoldsTables, HoldsDatabase, EndsSo, WritesText, WritesKept, WritesFolder, Checks, Shows, Judges, Promises, Cleans, IsCleanWork, TellsKeys, Inverts, StoresTables, AreStored, GivesBack, IsGraphFile, AnswersOver, AnswersQuery, HoldsQuestion, RefusesFault, RefusesPattern, WritesAnswer, WritesBatch, WritesSolutions}
+use Rattle.cmd_dm.specs.Plans.{IsOutcome, NamesFile, ask_file, folder_file, graph_file, plan_of, rows_file, sparql_file}
+use Rattle.cmd_dm.specs.Questions.{IsInverseAnswer, IsParsedAnswer, IsQueryAnswer, answers_of, solutions_of, batch_of, lines_of, violations_of, verdict_of, graph_of, removals_of, left_of, files_of}
 use Rattle.cmd_dm.specs.Clean.{clean_script, clean_work}
-use Rattle.cmd_dm.specs.Reasons.{bad_base, batch_reason, inverse_status, key_reason, query_status, reason}
+use Rattle.cmd_dm.specs.Reasons.{bad_base, batch_reason, inverse_status, key_reason, query_status, reason, sparql_status}
 use Rattle.cmd_dm.specs.Script.{Script, Work, Outcome, usage, refused, done, text_work, too_long, status_of, Comes, AfterLoad, MayLoad, ask, write, refuse}
-use Rattle.cmd_dm.specs.Steps.{base_step, schema_step, rows_step, tables_step, database_step, declared_step, folder_step, graph_step, inverse_step, kept_step, keys_step, triples_step, query_step, query_text_step, on_answer, on_violations}
+use Rattle.cmd_dm.specs.Steps.{base_step, schema_step, rows_step, tables_step, database_step, declared_step, folder_step, graph_step, inverse_step, kept_step, keys_step, triples_step, parsed_step, parsed_text_step, query_step, query_text_step, on_answer, on_violations}
 use Rattle.cmd_dm.proofs.Answered.{as_rows}
 use Rattle.cmd_dm.proofs.Batches.{batch_enlarges_so}
 use Rattle.cmd_dm.proofs.Endings.{ends_exact, status_comes}
 use Rattle.cmd_dm.proofs.Further.{FewBehind, few_first, few_rest, from_first}
-use Rattle.cmd_dm.proofs.Outcomes.{outcome_unique, schema_answer_unique, rows_answer_unique, triples_answer_unique, query_answer_unique}
+use Rattle.cmd_dm.proofs.Outcomes.{outcome_unique, schema_answer_unique, rows_answer_unique, triples_answer_unique, parsed_answer_unique, query_answer_unique}
 use Rattle.cmd_dm.proofs.LawfulQueries.{read_lawful}
 use Rattle.cmd_dm.proofs.SomeOutcome.{declared_schema}
 use Rattle.cmd_dm.specs.declared.command.Command.{Command}
-use Rattle.cmd_dm.specs.declared.command.Command.TheVariants.{Direct, Map, MapKeys, Check, Show, Consistent, Clean, Append, Invert, Rows, Translate, Ask}
+use Rattle.cmd_dm.specs.declared.command.Command.TheVariants.{Direct, Map, MapKeys, Check, Show, Consistent, Clean, Append, Invert, Rows, Translate, Ask, Sparql}
 use Rattle.cmd_dm.specs.declared.status.File.{File}
 use Rattle.cmd_dm.specs.declared.status.File.TheVariants.{Schema, Table as TableFile, Query, Graph, Pattern, More}
 use Rattle.cmd_dm.specs.declared.status.Reason.{Reason}
@@ -367,6 +373,20 @@ ask_names mode base folder source document file name h =
     query_no_graph : Query ≡ Graph → ⊥
     query_no_graph e = absurd cc
 
+sparql_named : (document name : List ℕ) (file : File) (by : List ℕ) → (file ≡ Pattern) × (by ≡ encode_utf8_all name) → IfSome (sparql_file document name file) (λ named. by ≡ named)
+sparql_named document name file by h = subst (λ (f : File). IfSome (sparql_file document name f) (λ named. by ≡ named)) (sym h.0) h.1
+
+source_named : (document name : List ℕ) (file : File) (by : List ℕ) → (file ≡ Graph) × (by ≡ encode_utf8_all document) → IfSome (sparql_file document name file) (λ named. by ≡ named)
+source_named document name file by h = subst (λ (f : File). IfSome (sparql_file document name f) (λ named. by ≡ named)) (sym h.0) h.1
+
+sparql_names : (document name : List ℕ) (file : File) (by : List ℕ) → MayLoad (sparql_script document name) file by → IfSome (sparql_file document name file) (λ named. by ≡ named)
+unfolding parsed_step parsed_text_step
+sparql_names document name file by (inl h) = sparql_named document name file by (sym h.0, sym h.1)
+sparql_names document name file by (inr h) =
+    answer_may_load h.1.1.0 (solutions_script document) file by (IfSome (sparql_file document name file) (λ named. by ≡ named))
+    (λ parsed k. source_named document name file by
+    (graph_may_load document (λ triples. ask (solutions_of parsed triples) (λ text. write (text_work text))) file by (λ triples l. l.1.1) k)) h.1.1.1.1
+
 -- behind the number of rows what is next alone is loaded
 few_may_load : (number count : ℕ) (next : Unit {0} → Script) (file : File) (name : List ℕ) → MayLoad (few_step number count next) file name → MayLoad (next tt) file name
 unfolding few_step
@@ -437,6 +457,7 @@ command_names (Translate mode base folder document) file name h = translate_name
 command_names (Ask mode base folder source document) file name h = ask_names mode base folder source document file name h
 command_names (Show document) file name h =
     show_names document file name (graph_may_load document (λ triples. write (text_work (flat_map triple_text triples))) file name (λ triples k. k) h)
+command_names (Sparql document pattern) file name h = sparql_names document pattern file name h
 command_names (Consistent document) file name h = show_names document file name (graph_may_load document judged file name (λ triples k. k.1.1) h)
 command_names (Append base folder more nulls) file name h = append_names base folder more nulls file name h
 command_names (Invert base document out) file name h = invert_names base document out file name h
@@ -778,6 +799,47 @@ module _ (mode : Mode) (base folder source document : List ℕ) (files : Files) 
     answers_over : AnswersOver mode base tables bytes text triples s t o p status
     answers_over = record { solutions = writes_solutions; rows = writes_as_rows }
 
+-- ---- patterns
+
+-- why a text is no pattern with a header
+pattern_refusal : (bytes : List ℕ) (error : SparqlError) (P : Status → Type 0) → ¬ (error ≡ sparql.Memory) → IsParsedAs bytes (Err error)
+    → ((reason : Reason) → IsParsedAnswer bytes (Err reason) → P (Refused reason)) → P (sparql_status error)
+pattern_refusal bytes (sparql.BadPattern place) P other h goes = goes _ (sparql.BadPattern place, h, refl)
+pattern_refusal bytes (sparql.TooNested place) P other h goes = goes _ (sparql.TooNested place, h, refl)
+pattern_refusal bytes sparql.Memory P other h goes = absurd (other refl)
+
+module _ (document name : List ℕ) (files : Files) (bytes : List ℕ) (there : HoldsFile files (encode_utf8_all name) bytes) where
+  -- a run comes to what the answer leads to
+  parsed_comes : (outcome : Outcome) → Comes files (sparql_script document name) outcome → (answer : Result Parsed Reason) × (IsParsedAnswer bytes answer × Comes files (on_answer answer (solutions_script document)) outcome)
+  unfolding parsed_step parsed_text_step
+  parsed_comes outcome h = after_load Pattern (get files (encode_utf8_all name)) bytes (λ bytes. Comes files (parsed_text_step bytes (solutions_script document)) outcome) outcome there.held there.short h
+
+  -- and of a pattern to the lines of its solutions
+  solutions_come : (parsed : Parsed) (text : List ℕ) (triples : List Statement) → IsParsedAs bytes (Ok parsed) → HoldsFile files (encode_utf8_all document) text → IsDocument text triples → length triples ≤ limit → (outcome : Outcome)
+      → Comes files (sparql_script document name) outcome → (lines : List ℕ) × (AreSolutionLines triples parsed.pattern parsed.header lines × (outcome ≡ done (text_work lines)))
+  unfolding graph_step triples_step
+  solutions_come parsed text triples is held document_is few outcome h =
+      let put : List Statement → Script = λ triples. ask (solutions_of parsed triples) (λ text. write (text_work text)) in
+      let found = parsed_comes outcome h in
+      let known = on_known files found.0 parsed (solutions_script document) outcome (parsed_answer_unique bytes found.0 (Ok parsed) found.1.0 is) found.1.1 in
+      let asked = after_load Graph (get files (encode_utf8_all document)) text (λ bytes. Comes files (triples_step bytes put) outcome) outcome held.held held.short known in
+      let lines = on_known files asked.0 triples put outcome (triples_answer_unique text asked.0 (Ok triples) asked.1.0 (document_is, few)) asked.1.1 in
+      (lines.0, (lines.1.0, lines.1.1))
+
+  module _ {s t : ShelfState} {o p : SinkState} (status : Status) (ends : Ends to_output (sparql_script document name) s t o p status) (told : s.files ≡ Some files) where
+    refuses_parsed : (reason : Reason) → IsParsedAnswer bytes (Err reason) → EndsSo (Refused reason) s t o p status
+    refuses_parsed reason right = ends_so files (refused reason) ends told (λ outcome h.
+        let found = parsed_comes outcome h in
+        let same = parsed_answer_unique bytes found.0 (Err reason) found.1.0 right in
+        subst (λ (answer : Result Parsed Reason). Comes files (on_answer answer (solutions_script document)) outcome) same found.1.1)
+
+    refuses_pattern : RefusesPattern bytes s t o p status
+    refuses_pattern error other h = pattern_refusal bytes error (λ status'. EndsSo status' s t o p status) other h refuses_parsed
+
+    writes_solution_lines : (text : List ℕ) (triples : List Statement) → HoldsFile files (encode_utf8_all document) text → IsDocument text triples → length triples ≤ limit → WritesSolutions bytes triples s t o p status
+    writes_solution_lines text triples held document_is few parsed is =
+        writes_text (AreSolutionLines triples parsed.pattern parsed.header) (sparql_script document name) status files ends told (solutions_come parsed text triples is held document_is few)
+
 -- ---- tables that come back
 
 abbrev store : Batch → Script
@@ -947,6 +1009,10 @@ promised (Translate mode base folder document) status ends = λ files tables byt
 promised (Ask mode base folder source document) status ends = λ files tables bytes told good held. (
   refuses_fault base folder document (answers_script mode source) files tables bytes good held status ends told,
   λ text triples there is few. answers_over mode base folder source document files tables bytes text triples good held there is few status ends told,
+)
+promised (Sparql document name) status ends = λ files bytes told there. (
+  refuses_pattern document name files bytes there status ends told,
+  λ text triples held is few. writes_solution_lines document name files bytes there status ends told text triples held is few,
 )
 promised (Show document) status ends = λ files bytes triples told held is few. shows document files bytes triples status ends told held is few
 promised (Clean folder out nulls) status ends = λ files D told held. cleans folder out nulls files D status ends told held

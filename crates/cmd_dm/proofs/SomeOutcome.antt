@@ -66,22 +66,29 @@ use Rattle.cmd_dm.specs.GraphScript.{graph_script}
 use Rattle.cmd_dm.specs.Invert.{files_work, invert_script}
 use Rattle.cmd_dm.proofs.Inverses.{inverse_answer_some}
 use Rattle.cmd_dm.specs.Plans.{IsOutcome}
-use Rattle.cmd_dm.specs.Questions.{IsSchemaAnswer, IsRowsAnswer, IsTriplesAnswer, IsQueryAnswer, answers_of, batch_of, lines_of, graph_of, verdict_of, violations_of, files_of, left_of, removals_of}
+use Rattle.cmd_dm.specs.Questions.{IsSchemaAnswer, IsRowsAnswer, IsTriplesAnswer, IsQueryAnswer, IsParsedAnswer, solutions_of, answers_of, batch_of, lines_of, graph_of, verdict_of, violations_of, files_of, left_of, removals_of}
 use Rattle.cmd_dm.specs.Reasons.{bad_base, batch_reason, cause_code, key_reason, reason}
 use Rattle.cmd_dm.specs.Script.{Script, Outcome, usage, refused, absent, too_long, done, text_work, AfterLoad, Comes, ask, refuse, write}
-use Rattle.cmd_dm.specs.Steps.{base_step, database_step, declared_step, folder_step, graph_step, inverse_step, kept_step, keys_step, on_answer, on_violations, query_step, query_text_step, rows_step, schema_step, tables_step, triples_step}
+use Rattle.cmd_dm.specs.Steps.{base_step, database_step, declared_step, folder_step, graph_step, inverse_step, kept_step, keys_step, on_answer, on_violations, parsed_step, parsed_text_step, query_step, query_text_step, rows_step, schema_step, tables_step, triples_step}
 use Rattle.cmd_dm.specs.Check.{check_text}
 use Rattle.cmd_dm.specs.Consistent.{consistent_script, verdict_text}
 use Rattle.cmd_dm.specs.Rows.{rows_script}
 use Rattle.cmd_dm.specs.Show.{show_script}
+use Rattle.cmd_dm.specs.Sparql.{solutions_script, sparql_script}
+use Rattle.pattern_lines_dm.proofs.SomeLines.{solution_lines_some}
+use Rattle.sparql_text_dm.specs.Answer.{IsAnswer as IsParsedAs}
+use Rattle.sparql_text_dm.specs.declared.error.SparqlError.{SparqlError}
+use Rattle.sparql_text_dm.specs.declared.error.SparqlError.TheVariants as sparql
+use Rattle.sparql_text_dm.specs.declared.parsed.Parsed.{Parsed}
+use Rattle.sparql_text_dm.proofs.SomeAnswer.{some_answer}
 use Rattle.cmd_dm.specs.declared.command.Command.{Command}
 use Rattle.cmd_dm.proofs.Answered.{answers_some, pattern_text_some}
 use Rattle.cmd_dm.proofs.Batches.{batch_text_some}
 use Rattle.cmd_dm.proofs.Further.{FewBehind, few_alone, few_cons, in_all}
 use Rattle.cmd_dm.proofs.Subjects.{document_subjects}
-use Rattle.cmd_dm.specs.declared.command.Command.TheVariants.{Direct, Map, MapKeys, Check, Show, Consistent, Clean, Append, Invert, Rows, Translate, Ask}
+use Rattle.cmd_dm.specs.declared.command.Command.TheVariants.{Direct, Map, MapKeys, Check, Show, Consistent, Clean, Append, Invert, Rows, Translate, Ask, Sparql}
 use Rattle.cmd_dm.specs.declared.status.File.{File}
-use Rattle.cmd_dm.specs.declared.status.File.TheVariants.{Schema, Table as TableFile, Graph, Query as QueryFile, More}
+use Rattle.cmd_dm.specs.declared.status.File.TheVariants.{Schema, Table as TableFile, Graph, Query as QueryFile, Pattern as PatternFile, More}
 use Rattle.cmd_dm.specs.declared.status.Reason.{Reason}
 use Rattle.cmd_dm.specs.declared.steps.LoadedFolder.{LoadedFolder}
 
@@ -137,6 +144,18 @@ query_answer_some tables bytes none = query_some tables bytes by_answer
     by_answer : (answer : Result Query QueryError) → ¬ (answer ≡ Err query.Memory) → ¬ IsReadAs tables bytes answer
     by_answer (Ok q) other right = none (Ok q) right
     by_answer (Err error) other right = let why = query_fault_some tables bytes error other right in none (Err why.0) why.1
+
+parsed_fault_some : (bytes : List ℕ) (error : SparqlError) → ¬ (◌≡◌ {A = Result Parsed SparqlError} (Err error) (Err sparql.Memory)) → IsParsedAs bytes (Err error) → (why : Reason) × IsParsedAnswer bytes (Err why)
+parsed_fault_some bytes (sparql.BadPattern place) other h = (reason 47 0 place 0, (sparql.BadPattern place, h, refl))
+parsed_fault_some bytes (sparql.TooNested place) other h = (reason 48 0 place 0, (sparql.TooNested place, h, refl))
+parsed_fault_some bytes sparql.Memory other h = absurd (other refl)
+
+parsed_answer_some : (bytes : List ℕ) → ¬ ((answer : Result Parsed Reason) → ¬ IsParsedAnswer bytes answer)
+parsed_answer_some bytes none = some_answer bytes by_answer
+  where
+    by_answer : (answer : Result Parsed SparqlError) → ¬ (answer ≡ Err sparql.Memory) → ¬ IsParsedAs bytes answer
+    by_answer (Ok parsed) other right = none (Ok parsed) right
+    by_answer (Err error) other right = let why = parsed_fault_some bytes error other right in none (Err why.0) why.1
 
 -- what stands behind the lines that were read is read too, or its first fault is an answer
 lines_some : (bytes : List ℕ) (front rest : List (List ℕ)) (triples : List Statement) → lines bytes ≡ front ++ rest → AreTriples front triples → length triples ≤ limit
@@ -390,6 +409,27 @@ ask_some files mode base folder document name =
     on_triples tables q schema formed (Ok triples) none = answers_some mode base tables q schema formed triples (λ text is. none (done (text_work text)) (text, ((schema, is), refl)))
     on_triples tables q schema formed (Err why) none = none (refused why) refl
 
+-- ---- patterns
+
+sparql_some : (files : Files) (document name : List ℕ) → SomeComes files (sparql_script document name)
+unfolding graph_step triples_step parsed_step parsed_text_step
+sparql_some files document name =
+    some_loaded PatternFile (get files (encode_utf8_all name)) (λ bytes o. Comes files (parsed_text_step bytes (solutions_script document)) o)
+    (λ bytes none. parsed_answer_some bytes (λ answer right. on_parsed answer (λ o comes. none o (answer, (right, comes)))))
+  where
+    put : Parsed → List Statement → Script
+    put parsed triples = ask (solutions_of parsed triples) (λ text. write (text_work text))
+
+    on_triples : (parsed : Parsed) (answer : Result (List Statement) Reason) → SomeComes files (on_answer answer (put parsed))
+    on_triples parsed (Ok triples) none = solution_lines_some triples parsed.pattern parsed.header (λ text lines. none (done (text_work text)) (text, (lines, refl)))
+    on_triples parsed (Err why) none = none (refused why) refl
+
+    on_parsed : (answer : Result Parsed Reason) → SomeComes files (on_answer answer (solutions_script document))
+    on_parsed (Ok parsed) none =
+        some_loaded Graph (get files (encode_utf8_all document)) (λ bytes o. Comes files (triples_step bytes (put parsed)) o)
+        (λ bytes none. triples_answer_some bytes (λ answer right. on_triples parsed answer (λ o comes. none o (answer, (right, comes))))) none
+    on_parsed (Err why) none = none (refused why) refl
+
 -- ---- batches
 
 few_some : (files : Files) (number count : ℕ) (next : Unit {0} → Script) → (count ≤ 4194304 → SomeComes files (next tt)) → SomeComes files (few_step number count next)
@@ -465,6 +505,7 @@ words_some files (Some (Invert base name out)) none = invert_some files base nam
 words_some files (Some (Rows folder name nulls)) none = query_rows_some files folder name nulls none
 words_some files (Some (Translate mode base folder name)) none = translate_some files mode base folder name none
 words_some files (Some (Ask mode base folder document name)) none = ask_some files mode base folder document name none
+words_some files (Some (Sparql document name)) none = sparql_some files document name none
 words_some files (Some (Show name)) none = show_some files name none
 words_some files (Some (Consistent name)) none = consistent_some files name none
 words_some files (Some (Check folder nulls)) none =

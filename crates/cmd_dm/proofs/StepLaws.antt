@@ -32,12 +32,16 @@ use Rattle.table_csv.specs.TableFiles.{IsFirstFault, IsTableFile, records_of}
 use Rattle.table_csv.specs.declared.fault.TableError.{TableError}
 use Rattle.table_csv.specs.declared.fault.TableError.TheVariants as table
 use Rattle.table_csv.proofs.Zips.{zipped_behind}
+use Rattle.sparql_text_dm.specs.Answer.{IsAnswer as IsParsedAs}
+use Rattle.sparql_text_dm.specs.declared.error.SparqlError.{SparqlError}
+use Rattle.sparql_text_dm.specs.declared.error.SparqlError.TheVariants as sparql
+use Rattle.sparql_text_dm.specs.declared.parsed.Parsed.{Parsed}
 use Rattle.cmd_dm.specs.Ending.{Target, Ends, Leads}
 use Rattle.cmd_dm.specs.Folder.{table_file}
-use Rattle.cmd_dm.specs.Questions.{AreInverse, inverse_of, query_of, schema_of, rows_of, triples_of}
-use Rattle.cmd_dm.specs.Reasons.{cause_code, ddl_status, graph_status, inverse_status, query_status, reason, table_status}
+use Rattle.cmd_dm.specs.Questions.{AreInverse, inverse_of, parsed_of, query_of, schema_of, rows_of, triples_of}
+use Rattle.cmd_dm.specs.Reasons.{cause_code, ddl_status, graph_status, inverse_status, query_status, reason, sparql_status, table_status}
 use Rattle.cmd_dm.specs.Script.{Script, load}
-use Rattle.cmd_dm.specs.Steps.{inverse_step, on_answer, query_text_step, rows_step, schema_step, tables_step, triples_step}
+use Rattle.cmd_dm.specs.Steps.{inverse_step, on_answer, parsed_text_step, query_text_step, rows_step, schema_step, tables_step, triples_step}
 use Rattle.cmd_dm.proofs.Endings.{ends_after, ends_memory, ends_refused, leads_ask, leads_refl}
 use Rattle.cmd_dm.specs.declared.status.File.TheVariants as file
 use Rattle.cmd_dm.specs.declared.status.Reason.{Reason}
@@ -133,6 +137,25 @@ module _ (tables : List Table) (bytes : List ℕ) where
   query_ends query.EmptyProject h state target next out = query_refuses query.EmptyProject (reason 39 0 0 0) h refl state target next out
   query_ends query.TooWide h state target next out = query_refuses query.TooWide (reason 45 0 0 0) h refl state target next out
   query_ends query.Memory h state target next out = ends_memory target (query_text_step tables bytes next) state out
+
+-- ---- patterns
+
+module _ (bytes : List ℕ) where
+  pub parsed_reads : (parsed : Parsed) → IsParsedAs bytes (Ok parsed) → (state : ShelfState) (next : Parsed → Script) → Leads (parsed_text_step bytes next) state (next parsed) state
+  unfolding parsed_text_step
+  parsed_reads parsed is state next = leads_ask (parsed_of bytes) (Ok parsed) (λ answer. on_answer answer next) state is
+
+  parsed_refuses : (error : SparqlError) (why : Reason) → IsParsedAs bytes (Err error) → sparql_status error ≡ Refused why → (state : ShelfState) (target : Target) (next : Parsed → Script) (out : SinkState) →
+      Ends target (parsed_text_step bytes next) state state out out (Refused why)
+  unfolding parsed_text_step
+  parsed_refuses error why fault told state target next out =
+      ends_after (leads_ask (parsed_of bytes) (Err why) (λ answer. on_answer answer next) state (error, fault, told)) (ends_refused target why state out)
+
+  pub parsed_ends : (error : SparqlError) → IsParsedAs bytes (Err error) → (state : ShelfState) (target : Target) (next : Parsed → Script) (out : SinkState) →
+      Ends target (parsed_text_step bytes next) state state out out (sparql_status error)
+  parsed_ends (sparql.BadPattern place) h state target next out = parsed_refuses (sparql.BadPattern place) (reason 47 0 place 0) h refl state target next out
+  parsed_ends (sparql.TooNested place) h state target next out = parsed_refuses (sparql.TooNested place) (reason 48 0 place 0) h refl state target next out
+  parsed_ends sparql.Memory h state target next out = ends_memory target (parsed_text_step bytes next) state out
 
 -- ---- inverses
 

@@ -43,6 +43,11 @@ use Rattle.algebra_dm.specs.declared.query.Mode.{Mode}
 use Rattle.algebra_dm.specs.declared.query.Query.{Query}
 use Rattle.query_text_dm.specs.Answer.{IsAnswer, IsTextOfQuery}
 use Rattle.query_lines_dm.specs.Lines.{AreQueryLines}
+use Rattle.pattern_lines_dm.specs.Lines.{AreSolutionLines}
+use Rattle.sparql_text_dm.specs.Answer.{IsAnswer as IsParsedAs, IsTextOf}
+use Rattle.sparql_text_dm.specs.declared.error.SparqlError.{SparqlError}
+use Rattle.sparql_text_dm.specs.declared.error.SparqlError.TheVariants as sparql
+use Rattle.sparql_text_dm.specs.declared.parsed.Parsed.{Parsed}
 use Rattle.table_patterns_dm.specs.TablePatterns.{graph_of}
 use Rattle.graphs_dm.specs.Graphs.{AreTriplesOf, IsGraphText}
 use Rattle.graphs_dm.specs.Interpreted.{IsInterpretedWhereKept}
@@ -54,10 +59,10 @@ use Rattle.cmd_dm.specs.Consistent.{verdict_text}
 use Rattle.cmd_dm.specs.Ending.{NoFault, Wrote}
 use Rattle.cmd_dm.specs.Folder.{schema_file, table_file, AreFilesOf, AreFolderFiles, shape_of}
 use Rattle.cmd_dm.specs.Clean.{clean_work}
-use Rattle.cmd_dm.specs.Reasons.{batch_reason, inverse_status, key_reason, query_status}
+use Rattle.cmd_dm.specs.Reasons.{batch_reason, inverse_status, key_reason, query_status, sparql_status}
 use Rattle.cmd_dm.specs.Script.{Work}
 use Rattle.cmd_dm.specs.declared.command.Command.{Command}
-use Rattle.cmd_dm.specs.declared.command.Command.TheVariants.{Direct, Map, MapKeys, Check, Show, Consistent, Clean, Append, Invert, Rows, Translate, Ask}
+use Rattle.cmd_dm.specs.declared.command.Command.TheVariants.{Direct, Map, MapKeys, Check, Show, Consistent, Clean, Append, Invert, Rows, Translate, Ask, Sparql}
 use Rattle.cmd_dm.specs.declared.status.Status.{Status}
 use Rattle.cmd_dm.specs.declared.status.Status.TheVariants.{Ok as Done, Refused, Memory}
 
@@ -211,6 +216,16 @@ pub record AnswersOver (mode : Mode) (base : List ℕ) (tables : List Table) (by
   pub rows : (D : Data) → IsText base → IsDatabase D → D.tables ≡ tables → KeepsKeysOf mode D → IsGraphText (graph_of mode) base D text
       → WritesAnswer (AreQueryLines D) tables bytes old new before after status
 
+-- `sparql`: where the pattern's text is no header and pattern, the run is refused for the first fault
+abbrev pub RefusesPattern : List ℕ → ShelfState → ShelfState → SinkState → SinkState → Status → Type 0
+RefusesPattern bytes old new before after status =
+    (error : SparqlError) → error ≢ sparql.Memory → IsParsedAs bytes (Err error) → EndsSo (sparql_status error) old new before after status
+
+-- where it is one, the lines of the pattern's solutions over the triples of the graph's file are written
+abbrev pub WritesSolutions : List ℕ → List Statement → ShelfState → ShelfState → SinkState → SinkState → Status → Type 0
+WritesSolutions bytes triples old new before after status =
+    (parsed : Parsed) → IsTextOf bytes parsed → WritesText (AreSolutionLines triples parsed.pattern parsed.header) old new before after status
+
 -- `show`: the lines of the triples in their written form, in their order, are written
 abbrev pub Shows : List Statement → ShelfState → ShelfState → SinkState → SinkState → Status → Type 0
 Shows triples old new before after status = WritesText (λ text. text ≡ flat_map triple_text triples) old new before after status
@@ -255,6 +270,11 @@ Promises (Ask mode base folder document name) old new before after status =
     → RefusesFault tables bytes old new before after status
     × ((text : List ℕ) (triples : List Statement) → HoldsFile files (encode_utf8_all document) text → IsDocument text triples → length triples ≤ limit
     → AnswersOver mode base tables bytes text triples old new before after status)
+Promises (Sparql document name) old new before after status =
+    (files : Files) (bytes : List ℕ) → old.files ≡ Some files → HoldsFile files (encode_utf8_all name) bytes
+    → RefusesPattern bytes old new before after status
+    × ((text : List ℕ) (triples : List Statement) → HoldsFile files (encode_utf8_all document) text → IsDocument text triples → length triples ≤ limit
+    → WritesSolutions bytes triples old new before after status)
 Promises (Show name) old new before after status =
     (files : Files) (bytes : List ℕ) (triples : List Statement) → old.files ≡ Some files → HoldsFile files (encode_utf8_all name) bytes → IsDocument bytes triples → length triples ≤ limit
     → Shows triples old new before after status

@@ -16,6 +16,7 @@ pub mod Append
 pub mod Rows
 pub mod Ask
 pub mod Show
+pub mod Sparql
 pub mod Consistent
 pub mod Plans
 pub mod Headline

@@ -13,11 +13,12 @@ use Rattle.cmd_dm.specs.Ending.{Target, to_both, to_output, to_shelf}
 use Rattle.cmd_dm.specs.Invert.{invert_script}
 use Rattle.cmd_dm.specs.Rows.{rows_script}
 use Rattle.cmd_dm.specs.Show.{show_script}
+use Rattle.cmd_dm.specs.Sparql.{sparql_script}
 use Rattle.cmd_dm.specs.Script.{Script, Outcome, usage, Comes}
 use Rattle.cmd_dm.specs.declared.status.File.{File}
-use Rattle.cmd_dm.specs.declared.status.File.TheVariants.{Schema, Query, Graph}
+use Rattle.cmd_dm.specs.declared.status.File.TheVariants.{Schema, Query, Graph, Pattern}
 use Rattle.cmd_dm.specs.declared.command.Command.{Command}
-use Rattle.cmd_dm.specs.declared.command.Command.TheVariants.{Direct, Map, MapKeys, Check, Show, Consistent, Clean, Append, Invert, Rows, Translate, Ask}
+use Rattle.cmd_dm.specs.declared.command.Command.TheVariants.{Direct, Map, MapKeys, Check, Show, Consistent, Clean, Append, Invert, Rows, Translate, Ask, Sparql}
 
 pub record Plan : Type 0 where
   pub target : Target
@@ -34,6 +35,7 @@ plan_of (Invert base name out) = record { target = to_shelf; script = invert_scr
 plan_of (Rows folder name nulls) = record { target = to_output; script = rows_script folder name nulls }
 plan_of (Translate mode base folder name) = record { target = to_output; script = translate_script mode base folder name }
 plan_of (Ask mode base folder document name) = record { target = to_output; script = ask_script mode base folder document name }
+plan_of (Sparql document name) = record { target = to_output; script = sparql_script document name }
 plan_of (Show name) = record { target = to_output; script = show_script name }
 plan_of (Consistent name) = record { target = to_output; script = consistent_script name }
 
@@ -58,6 +60,11 @@ abbrev pub ask_file : List ℕ → List ℕ → List ℕ → File → Option (Li
 ask_file folder document name Graph = Some (encode_utf8_all document)
 ask_file folder document name file = rows_file folder name file
 
+-- the file of the graph or the pattern, where it is the file
+abbrev pub sparql_file : List ℕ → List ℕ → File → Option (List ℕ)
+sparql_file document name Pattern = Some (encode_utf8_all name)
+sparql_file document name file = graph_file document file
+
 -- the names of the files that the words alone name
 abbrev pub file_of : Command → File → Option (List ℕ)
 file_of (Direct base folder nulls) file = folder_file folder file
@@ -70,6 +77,7 @@ file_of (Invert base name out) file = graph_file name file
 file_of (Rows folder name nulls) file = rows_file folder name file
 file_of (Translate mode base folder name) file = rows_file folder name file
 file_of (Ask mode base folder document name) file = ask_file folder document name file
+file_of (Sparql document name) file = sparql_file document name file
 file_of (Show name) file = graph_file name file
 file_of (Consistent name) file = graph_file name file
 

@@ -39,9 +39,13 @@ use Rattle.algebra_dm.specs.declared.query.Mode.{Mode}
 use Rattle.algebra_dm.specs.declared.query.Query.{Query}
 use Rattle.query_text_dm.specs.Answer.{IsAnswer as IsReadAs}
 use Rattle.query_lines_dm.specs.Lines.{AreQueryLines}
+use Rattle.pattern_lines_dm.specs.Lines.{AreSolutionLines}
+use Rattle.sparql_text_dm.specs.Answer.{IsAnswer as IsParsedAs}
+use Rattle.sparql_text_dm.specs.declared.error.SparqlError.{SparqlError}
+use Rattle.sparql_text_dm.specs.declared.parsed.Parsed.{Parsed}
 use Rattle.cmd_dm.specs.Answered.{AreAnswersIn, IsPatternText}
 use Rattle.cmd_dm.specs.Folder.{AreFilesOf, AreFolderFiles}
-use Rattle.cmd_dm.specs.Reasons.{ddl_status, graph_status, inverse_status, query_status, table_status}
+use Rattle.cmd_dm.specs.Reasons.{ddl_status, graph_status, inverse_status, query_status, sparql_status, table_status}
 use Rattle.cmd_dm.specs.declared.status.Reason.{Reason}
 use Rattle.cmd_dm.specs.declared.status.Status.TheVariants.{Refused}
 
@@ -76,6 +80,10 @@ pub data Question : Type 0 where
   pattern_of : Mode → List ℕ → List Table → Query → Question
   -- the lines of the solutions of this pattern over the triples, where the tables are a schema's
   answers_of : Mode → List ℕ → List Table → Query → List Statement → Question
+  -- the header and the pattern of the bytes
+  parsed_of : List ℕ → Question
+  -- the lines of the solutions of a pattern with its header over the triples
+  solutions_of : Parsed → List Statement → Question
 
 -- what an answer to the question is: a value, or why the bytes are refused
 abbrev pub AnswerTo : Question → Type 0
@@ -94,6 +102,8 @@ AnswerTo (query_of tables bytes) = Result Query Reason
 AnswerTo (lines_of D q) = List ℕ
 AnswerTo (pattern_of mode base tables q) = List ℕ
 AnswerTo (answers_of mode base tables q triples) = List ℕ
+AnswerTo (parsed_of bytes) = Result Parsed Reason
+AnswerTo (solutions_of parsed triples) = List ℕ
 
 abbrev pub IsSchemaAnswer : List ℕ → Result (List Table) Reason → Type 0
 IsSchemaAnswer bytes (Ok tables) = IsDdl bytes tables
@@ -122,6 +132,10 @@ abbrev pub IsQueryAnswer : List Table → List ℕ → Result Query Reason → T
 IsQueryAnswer tables bytes (Ok q) = IsReadAs tables bytes (Ok q)
 IsQueryAnswer tables bytes (Err reason) = (error : QueryError) × IsReadAs tables bytes (Err error) × (query_status error ≡ Refused reason)
 
+abbrev pub IsParsedAnswer : List ℕ → Result Parsed Reason → Type 0
+IsParsedAnswer bytes (Ok parsed) = IsParsedAs bytes (Ok parsed)
+IsParsedAnswer bytes (Err reason) = (error : SparqlError) × IsParsedAs bytes (Err error) × (sparql_status error ≡ Refused reason)
+
 -- the answer is right
 abbrev pub Answers : (question : Question) → AnswerTo question → Type 0
 Answers (schema_of bytes) answer = IsSchemaAnswer bytes answer
@@ -139,3 +153,5 @@ Answers (query_of tables bytes) answer = IsQueryAnswer tables bytes answer
 Answers (lines_of D q) text = AreQueryLines D q text
 Answers (pattern_of mode base tables q) text = IsSchema tables × IsPatternText mode base tables q text
 Answers (answers_of mode base tables q triples) text = IsSchema tables × AreAnswersIn mode base tables q triples text
+Answers (parsed_of bytes) answer = IsParsedAnswer bytes answer
+Answers (solutions_of parsed triples) text = AreSolutionLines triples parsed.pattern parsed.header text

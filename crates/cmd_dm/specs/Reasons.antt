@@ -17,6 +17,8 @@ use Rattle.keys_dm.specs.declared.violation.Violation.{Violation}
 use Rattle.keys_dm.specs.declared.violation.ViolationKind.{ViolationKind}
 use Rattle.keys_dm.specs.declared.violation.ViolationKind.TheVariants.{NullKey, RepeatedKey, RepeatedUnique, Dangling}
 use Rattle.cmd_dm.specs.declared.status.Reason.{Reason}
+use Rattle.sparql_text_dm.specs.declared.error.SparqlError.{SparqlError}
+use Rattle.sparql_text_dm.specs.declared.error.SparqlError.TheVariants as sparql
 use Rattle.cmd_dm.specs.declared.status.Status.{Status}
 use Rattle.cmd_dm.specs.declared.status.Status.TheVariants.{Refused, Memory}
 
@@ -93,6 +95,12 @@ query_status query.NotSameColumns = Refused (reason 38 0 0 0)
 query_status query.EmptyProject = Refused (reason 39 0 0 0)
 query_status query.TooWide = Refused (reason 45 0 0 0)
 query_status query.Memory = Memory
+
+-- the status of a text that is no pattern with a header
+abbrev pub sparql_status : SparqlError → Status
+sparql_status (sparql.BadPattern place) = Refused (reason 47 0 place 0)
+sparql_status (sparql.TooNested place) = Refused (reason 48 0 place 0)
+sparql_status sparql.Memory = Memory
 
 abbrev pub kind_reason : ℕ → ℕ → ViolationKind → Reason
 kind_reason table row NullKey = reason 42 table row 0

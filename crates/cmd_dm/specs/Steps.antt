@@ -9,11 +9,12 @@ use Rattle.table_csv.specs.Cells.{Row}
 use Rattle.table_csv.specs.Databases.{Data}
 use Rattle.keys_dm.specs.declared.violation.Violation.{Violation}
 use Rattle.algebra_dm.specs.declared.query.Query.{Query}
+use Rattle.sparql_text_dm.specs.declared.parsed.Parsed.{Parsed}
 use Rattle.outside_dm.specs.Storing.{Batch}
 use Rattle.graphs_dm.specs.declared.graph_name.GraphName.{GraphName}
 use Rattle.graphs_dm.specs.declared.graph_name.GraphName.TheVariants as graph
 use Rattle.cmd_dm.specs.Folder.{schema_file, table_file}
-use Rattle.cmd_dm.specs.Questions.{inverse_of, query_of, schema_of, rows_of, triples_of, violations_of}
+use Rattle.cmd_dm.specs.Questions.{inverse_of, parsed_of, query_of, schema_of, rows_of, triples_of, violations_of}
 use Rattle.cmd_dm.specs.Reasons.{bad_base, key_reason}
 use Rattle.cmd_dm.specs.Script.{Script, load, ask, refuse}
 use Rattle.cmd_dm.specs.declared.status.File.TheVariants as file
@@ -78,6 +79,14 @@ query_text_step tables bytes next = ask (query_of tables bytes) (λ answer. on_a
 -- the query of the file of this name over these tables
 unfoldable pub query_step : List Table → List ℕ → (Query → Script) → Script
 query_step tables name next = load file.Query (encode_utf8_all name) (λ bytes. query_text_step tables bytes next)
+
+-- the header and the pattern of the bytes
+unfoldable pub parsed_text_step : List ℕ → (Parsed → Script) → Script
+parsed_text_step bytes next = ask (parsed_of bytes) (λ answer. on_answer answer next)
+
+-- the header and the pattern of the file of this name
+unfoldable pub parsed_step : List ℕ → (Parsed → Script) → Script
+parsed_step name next = load file.Pattern (encode_utf8_all name) (λ bytes. parsed_text_step bytes next)
 
 -- goes on where no key is violated, or refuses for the first that is
 abbrev pub on_violations : List Violation → (Unit {0} → Script) → Script

@@ -9,7 +9,7 @@ use Rattle.algebra_dm.specs.declared.query.Mode.TheVariants as modes
 use Rattle.graphs_dm.specs.declared.graph_name.GraphName.{GraphName}
 use Rattle.graphs_dm.specs.declared.graph_name.GraphName.TheVariants as graph
 use Rattle.cmd_dm.specs.declared.command.Command.{Command}
-use Rattle.cmd_dm.specs.declared.command.Command.TheVariants.{Direct, Map, MapKeys, Check, Show, Consistent, Clean, Append, Invert, Rows, Translate, Ask}
+use Rattle.cmd_dm.specs.declared.command.Command.TheVariants.{Direct, Map, MapKeys, Check, Show, Consistent, Clean, Append, Invert, Rows, Translate, Ask, Sparql}
 
 -- [empty-null]
 abbrev pub nulls_of : List (List ℕ) → Option NullMode
@@ -77,6 +77,11 @@ abbrev pub ask_of : List (List ℕ) → Option Command
 ask_of (word ∷ base ∷ folder ∷ name ∷ query ∷ []) = option_map (λ mode. Ask mode (chars base) (chars folder) (chars name) (chars query)) (mode_of word)
 ask_of words = None
 
+-- GRAPH PATTERN
+abbrev pub sparql_of : List (List ℕ) → Option Command
+sparql_of (name ∷ pattern ∷ []) = Some (Sparql (chars name) (chars pattern))
+sparql_of words = None
+
 -- the command that words stand for: its name, and then exactly its words
 abbrev pub command_of : List (List ℕ) → Option Command
 command_of [] = None
@@ -91,5 +96,6 @@ command_of (name ∷ words) =
     if bytes_eq name (codes "rows") then rows_of words else
     if bytes_eq name (codes "translate") then translate_of words else
     if bytes_eq name (codes "ask") then ask_of words else
+    if bytes_eq name (codes "sparql") then sparql_of words else
     if bytes_eq name (codes "show") then show_of words else
     if bytes_eq name (codes "consistent") then consistent_of words else None

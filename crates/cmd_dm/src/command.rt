@@ -134,6 +134,15 @@ pub enum Command {
         query: Text,
     },
 
+    /// Writes the solutions of the pattern in a file over the triples of a file of N-Triples.
+    Sparql {
+        /// The name of the file with the triples.
+        graph: Text,
+
+        /// The name of the file with the pattern's SPARQL text.
+        pattern: Text,
+    },
+
     /// Writes each triple of a file of N-Triples in its written form.
     Show {
         /// The name of the file.

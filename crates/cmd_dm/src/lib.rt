@@ -16,6 +16,7 @@ mod query;
 mod reasons;
 mod rows;
 mod show;
+mod sparql;
 mod status;
 mod steps;
 mod storing;

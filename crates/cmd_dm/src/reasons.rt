@@ -1,5 +1,5 @@
 ghost use Rattle.std.specs.Prelude.{◌≡◌};
-ghost use Rattle.cmd_dm.specs.Reasons.{batch_reason, cause_code, ddl_status, graph_status, inverse_status, key_reason, query_status, table_status};
+ghost use Rattle.cmd_dm.specs.Reasons.{batch_reason, cause_code, ddl_status, graph_status, inverse_status, key_reason, query_status, sparql_status, table_status};
 
 use crate::status::{Reason, Status};
 use algebra_dm::QueryError;
@@ -8,6 +8,7 @@ use inverse_dm::InverseError;
 use keys_dm::{Violation, ViolationKind};
 use ntriples_reader_dm::GraphError;
 use schema_dm::SchemaCause;
+use sparql_text_dm::SparqlError;
 use table_csv::TableError;
 
 /// The code of a cause for which tables stand for no schema.
@@ -117,6 +118,17 @@ pub(crate) fn query_status(error: QueryError) -> Status
         QueryError::EmptyProject => refused(39, 0, 0, 0),
         QueryError::TooWide => refused(45, 0, 0, 0),
         QueryError::Memory => Status::Memory,
+    }
+}
+
+/// The status of a text that is no pattern with a header.
+pub(crate) fn sparql_status(error: SparqlError) -> Status
+    ensures { result ≡ sparql_status error }
+{
+    match error {
+        SparqlError::BadPattern(place) => refused(47, 0, place, 0),
+        SparqlError::TooNested(place) => refused(48, 0, place, 0),
+        SparqlError::Memory => Status::Memory,
     }
 }
 

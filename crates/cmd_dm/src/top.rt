@@ -19,6 +19,7 @@ use crate::graphs::run_graph;
 use crate::invert::run_invert;
 use crate::rows::run_rows;
 use crate::show::run_show;
+use crate::sparql::run_sparql;
 use crate::status::Status;
 use crate::words::{WordError, read_words};
 use graphs_dm::GraphName;
@@ -86,6 +87,7 @@ fn run_command<S: Shelf, K: Sink>(
             graph,
             query,
         } => run_ask(alloc, *mode, base, folder, graph, query, shelf, out),
+        Command::Sparql { graph, pattern } => run_sparql(alloc, graph, pattern, shelf, out),
         Command::Show { graph } => run_show(alloc, graph, shelf, out),
         Command::Consistent { graph } => run_consistent(alloc, graph, shelf, out),
     }

@@ -1,5 +1,5 @@
 ghost use Rattle.std.specs.Prelude.{◌≡◌, ◌↔◌, Some, None, IfOk, IfErr, IsErrOf, chars, map, string_bytes};
-ghost use Rattle.cmd_dm.specs.Words.{append_of, ask_of, check_of, command_of, consistent_of, graph_command, graph_words, invert_of, mode_of, nulls_of, rows_of, show_of, clean_of, translate_of};
+ghost use Rattle.cmd_dm.specs.Words.{append_of, ask_of, check_of, command_of, consistent_of, graph_command, graph_words, invert_of, mode_of, nulls_of, rows_of, show_of, sparql_of, clean_of, translate_of};
 ghost use Rattle.cmd_dm.specs.declared.command.Command.TheVariants.{Ask};
 ghost use Rattle.cmd_dm.specs.declared.words.WordError.TheVariants.{Memory, Usage};
 
@@ -276,6 +276,21 @@ fn read_show(alloc: Global, words: &[String]) -> Result<Command, WordError>
     }
 }
 
+/// The words behind `sparql`.
+fn read_sparql_words(alloc: Global, words: &[String]) -> Result<Command, WordError>
+    ensures ok { IfOk result (λ command. sparql_of (map string_bytes words.now) ≡ Some command) }
+    ensures usage { IsErrOf result WordError.Usage ↔ (sparql_of (map string_bytes words.now) ≡ None) }
+{
+    match words {
+        [graph, pattern] => {
+            let graph = text_of(alloc, graph)?;
+            let pattern = text_of(alloc, pattern)?;
+            Ok(Command::Sparql { graph, pattern })
+        }
+        _ => Err(WordError::Usage),
+    }
+}
+
 /// The words behind `consistent`.
 fn read_consistent(alloc: Global, words: &[String]) -> Result<Command, WordError>
     ensures ok { IfOk result (λ command. consistent_of (map string_bytes words.now) ≡ Some command) }
@@ -318,6 +333,8 @@ pub fn read_words(alloc: Global, words: &[String]) -> Result<Command, WordError>
                 read_translate(alloc, rest)
             } else if name.as_str() == "ask" {
                 read_ask(alloc, rest)
+            } else if name.as_str() == "sparql" {
+                read_sparql_words(alloc, rest)
             } else if name.as_str() == "show" {
                 read_show(alloc, rest)
             } else if name.as_str() == "consistent" {

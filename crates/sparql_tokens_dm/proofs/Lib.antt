@@ -3,3 +3,4 @@ pub mod Variables
 pub mod Scans
 pub mod Lexing
 pub mod Unique
+pub mod SomeTokens
