@@ -6,7 +6,7 @@ use value_dm::{Bytes, Text};
 
 // The inputs of docs/CODES.md, as they stand there: the words, then each file, its name behind `+` and then its lines, and at the end
 // the status and the line behind `!`. `<FF>` stands for the one byte FF.
-const INPUTS: [&str; 47] = [
+const INPUTS: [&str; 48] = [
     r#"dbrdf check d
 + d/schema.sql
 CREATE TABLE T (a INT);
@@ -352,6 +352,12 @@ a
 (notnull (notnull (notnull (notnull (notnull (notnull (notnull (notnull (notnull (notnull (notnull (notnull (notnull (notnull (notnull (notnull (notnull (notnull (notnull (notnull (notnull (notnull (notnull (notnull (notnull (notnull (notnull (notnull (notnull (notnull (notnull (notnull (notnull (notnull (notnull (notnull (notnull (notnull (notnull (notnull (notnull (notnull (notnull (notnull (notnull (notnull (notnull (notnull (notnull (notnull (notnull (notnull (notnull (notnull (notnull (notnull (notnull (notnull (notnull (notnull (notnull (notnull (notnull (notnull (notnull 
 ! 1 dbrdf: refused 40 TooDeep place 577
 "#,
+    r#"dbrdf sparql g p
++ g
++ p
+SELECT DISTINCT ?a WHERE { ?x ?p ?a }
+! 1 dbrdf: refused 47 BadPattern place 37
+"#,
 ];
 
 // The inputs of the page of which a call fails: this load, this store or this put, counted from 1.
@@ -522,6 +528,15 @@ fn numbered(alloc: Global, before: &str, after: &str, count: u64) -> Result<Stri
     Ok(text)
 }
 
+// A text so many times.
+fn repeated(alloc: Global, part: &str, count: u64) -> Result<String, AllocError> {
+    let mut text = String::new(alloc);
+    for _ in 0..count {
+        text.push_str(part)?;
+    }
+    Ok(text)
+}
+
 // Whether `check` of these statements ends so.
 fn is_schema_so(alloc: Global, statements: &str, ending: &str) -> Result<bool, Fail> {
     let input = format!(in alloc;
@@ -544,5 +559,17 @@ fn columns(rt: HostRuntime) -> Result<(), Fail> {
     let columns = numbered(alloc, ", c", " INT", 256)?;
     let statement = format!(in alloc; "CREATE TABLE T (a INT{columns});")?;
     assert!(rt; is_schema_so(alloc, statement.as_str(), "14 TooManyColumns table 1")?);
+    Ok(())
+}
+
+#[test]
+fn braces(rt: HostRuntime) -> Result<(), Fail> {
+    let alloc = rt.alloc();
+    let open = repeated(alloc, "{", 2049)?;
+    let closed = repeated(alloc, "}", 2049)?;
+    let input = format!(in alloc;
+        "dbrdf sparql g p\n+ g\n+ p\nSELECT DISTINCT ?a WHERE {open}{closed}\n! 1 dbrdf: refused 48 TooNested place 2074\n"
+    )?;
+    assert!(rt; ends_so(alloc, input.as_str(), 0, 0, 0)?);
     Ok(())
 }
