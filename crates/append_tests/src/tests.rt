@@ -1,8 +1,6 @@
-use cmd_dm::run;
-use outside_dm::{Calls, Cut, Cuts, FileList, MemoryShelf, MemorySink, NamedFile};
-use std::alloc::{AllocError, Global};
-use std::test::Fail;
-use value_dm::{Bytes, Text};
+use command_trials::{Fault, ends_so, files_of, files_with, output_of};
+use outside_dm::FileList;
+use std::alloc::Global;
 
 // A folder: its files, each with its name behind `+` and then its lines.
 const PEOPLE: &str = "+ d/schema.sql
@@ -282,184 +280,100 @@ id,v
 
 const APPEND: &str = "append http://foo.example/DB/ d m";
 
-// Which load or put fails, and how the run ends. Schema and two tables are loaded first.
-const FAULTS: [(u64, u64, &str); 4] = [
-    (4, 0, "4\n! dbrdf: read fault more 1\n"),
-    (5, 0, "4\n! dbrdf: read fault more 2\n"),
-    (3, 0, "4\n! dbrdf: read fault table 2\n"),
-    (0, 1, "5\n! dbrdf: write fault\n"),
+// The call that fails, and how the run over the folder and the first of the batches ends. Schema and two tables are loaded first.
+const FAULTS: [(Fault, &str); 4] = [
+    (Fault::Load(4), "4\n! dbrdf: read fault more 1\n"),
+    (Fault::Load(5), "4\n! dbrdf: read fault more 2\n"),
+    (Fault::Load(3), "4\n! dbrdf: read fault table 2\n"),
+    (Fault::Put(1), "5\n! dbrdf: write fault\n"),
 ];
 
-// The words of a command line, parted by spaces.
-fn words_of(alloc: Global, line: &str) -> Result<Vec<String>, AllocError> {
-    let mut words = Vec::new(alloc);
-    for word in line.split_whitespace() {
-        words.push(String::from_str(alloc, word)?)?;
-    }
-    Ok(words)
+// The files of the folder and of a batch for it.
+fn people_with(alloc: Global, more: &str) -> Option<FileList> {
+    let whole = format!(in alloc; "{PEOPLE}{more}").ok()?;
+    files_of(alloc, whole.as_str())
 }
 
-fn add_file(alloc: Global, list: &mut FileList, name: &str, bytes: &[u8]) -> Result<(), Fail> {
-    if !list.lacks(name) {
-        return Err(Fail::from("a file twice"));
-    }
-    let pushed = list.push(NamedFile {
-        name: Text::from_str(alloc, name)?,
-        bytes: Bytes::from_vec(Vec::from_slice(alloc, bytes)?),
-    });
-    match pushed {
-        Ok(()) => Ok(()),
-        Err(_) => Err(Fail::from("no memory")),
-    }
-}
-
-fn add_files(alloc: Global, list: &mut FileList, files: &str) -> Result<(), Fail> {
-    for file in files.split("+ ") {
-        match file.split_once('\n') {
-            Some((name, content)) => add_file(alloc, list, name, content.as_bytes())?,
-            None => {}
-        }
-    }
-    Ok(())
-}
-
-// The files of two folders.
-fn files_of(alloc: Global, folder: &str, more: &str) -> Result<FileList, Fail> {
-    let mut list = FileList::new(alloc);
-    add_files(alloc, &mut list, folder)?;
-    add_files(alloc, &mut list, more)?;
-    Ok(list)
-}
-
-// The calls that fail: this one, counted from 1, or none at 0.
-fn calls_of(alloc: Global, call: u64) -> Result<Calls, Fail> {
-    let mut calls = Calls::new(alloc);
-    calls.push(call)?;
-    Ok(calls)
-}
-
-// What a run over the shelf writes where this put fails: the number of its status, the output, and the line behind `!`, if there
-// is one.
-fn told(alloc: Global, line: &str, shelf: &mut MemoryShelf, put: u64) -> Result<Vec<u8>, Fail> {
-    let words = words_of(alloc, line)?;
-    let mut cuts = Cuts::new(alloc);
-    cuts.push(Cut { call: put, kept: 0 })?;
-    let mut out = MemorySink::new(alloc, cuts);
-    let mut diag = MemorySink::new(alloc, Cuts::new(alloc));
-    let status = run(alloc, &words, shelf, &mut out, &mut diag);
-    let number = format!(in alloc; "{}\n", status.number())?;
-    let mut whole = Vec::from_slice(alloc, number.as_bytes())?;
-    whole.extend_from_slice(out.bytes())?;
-    if diag.bytes().len() > 0 {
-        whole.extend_from_slice(b"! ")?;
-        whole.extend_from_slice(diag.bytes())?;
-    }
-    Ok(whole)
-}
-
-// What a run writes over these files, where this load or put fails.
-fn told_of(
-    alloc: Global,
-    line: &str,
-    files: FileList,
-    load: u64,
-    put: u64,
-) -> Result<Vec<u8>, Fail> {
-    let loads = calls_of(alloc, load)?;
-    let stores = calls_of(alloc, 0)?;
-    let mut shelf = MemoryShelf::new(alloc, files, loads, stores);
-    told(alloc, line, &mut shelf, put)
-}
-
-fn ends_so(alloc: Global, line: &str, files: FileList, ending: &str) -> Result<bool, Fail> {
-    let whole = told_of(alloc, line, files, 0, 0)?;
-    Ok(whole.as_slice() == ending.as_bytes())
-}
-
-#[test]
-fn batches(rt: HostRuntime) -> Result<(), Fail> {
-    for (line, more, ending) in BATCHES {
-        let files = files_of(rt.alloc(), PEOPLE, more)?;
-        assert!(rt; ends_so(rt.alloc(), line, files, ending)?, "{line} {more}");
-    }
-    Ok(())
-}
-
-#[test]
-fn other_folders(rt: HostRuntime) -> Result<(), Fail> {
-    for (folders, ending) in OTHERS {
-        let files = files_of(rt.alloc(), folders, "")?;
-        assert!(rt; ends_so(rt.alloc(), APPEND, files, ending)?, "{folders}");
-    }
-    Ok(())
-}
-
-// The folder with the first of the batches.
-fn people(alloc: Global) -> Result<FileList, Fail> {
-    let (_, more, _) = BATCHES[0];
-    files_of(alloc, PEOPLE, more)
-}
-
-fn fails(alloc: Global, load: u64, put: u64, ending: &str) -> Result<bool, Fail> {
-    let whole = told_of(alloc, APPEND, people(alloc)?, load, put)?;
-    Ok(whole.as_slice() == ending.as_bytes())
-}
-
-#[test]
-fn faults(rt: HostRuntime) -> Result<(), Fail> {
-    for (load, put, ending) in FAULTS {
-        assert!(rt; fails(rt.alloc(), load, put, ending)?, "{load} {put}");
-    }
-    Ok(())
-}
-
-// Appends what a run writes that ends well.
-fn add_output(alloc: Global, line: &str, text: &mut Vec<u8>) -> Result<(), Fail> {
-    let whole = told_of(alloc, line, people(alloc)?, 0, 0)?;
-    match whole.as_slice() {
-        [b'0', b'\n', written @ ..] => Ok(text.extend_from_slice(written)?),
-        _ => Err(Fail::from("no text")),
-    }
-}
-
-// The graph of the folder with the text of the batch behind it.
-fn enlarged(alloc: Global) -> Result<FileList, Fail> {
-    let mut graph = Vec::new(alloc);
-    add_output(alloc, "map http://foo.example/DB/ d", &mut graph)?;
-    add_output(alloc, APPEND, &mut graph)?;
-    let mut list = FileList::new(alloc);
-    add_file(alloc, &mut list, "g", graph.as_slice())?;
-    Ok(list)
-}
-
-fn stands(shelf: &MemoryShelf, name: &str, content: &str) -> bool {
-    match shelf.content(name) {
-        Some(bytes) => bytes == content.as_bytes(),
+fn ends(alloc: Global, line: &str, more: &str, fault: Fault, ending: &str) -> bool {
+    match people_with(alloc, more) {
+        Some(files) => ends_so(alloc, line, files, fault, ending, ""),
         None => false,
     }
 }
 
 #[test]
-fn tables_come_back(rt: HostRuntime) -> Result<(), Fail> {
-    let alloc = rt.alloc();
-    let loads = calls_of(alloc, 0)?;
-    let stores = calls_of(alloc, 0)?;
-    let mut shelf = MemoryShelf::new(alloc, enlarged(alloc)?, loads, stores);
-    let ending = told(alloc, "invert http://foo.example/DB/ g o", &mut shelf, 0)?;
-    assert!(rt; ending.as_slice() == b"0\n".as_slice());
-    assert!(rt;
-        stands(
-            &shelf,
-            "o/Addresses.csv",
-            "ID,city,state\n18,Cambridge,MA\n19,Paris,\\N\n"
-        )
-    );
-    assert!(rt;
-        stands(
-            &shelf,
-            "o/People.csv",
-            "ID,addr,fname\n7,18,Bob\n8,\\N,Sue\n9,19,Ann\n"
-        )
-    );
-    Ok(())
+fn batches(rt: HostRuntime) {
+    for (line, more, ending) in BATCHES {
+        let found = ends(rt.alloc(), line, more, Fault::Nowhere, ending);
+        assert!(rt; found, "{line} {more}");
+    }
+}
+
+fn other_ends(alloc: Global, folders: &str, ending: &str) -> bool {
+    match files_of(alloc, folders) {
+        Some(files) => ends_so(alloc, APPEND, files, Fault::Nowhere, ending, ""),
+        None => false,
+    }
+}
+
+#[test]
+fn other_folders(rt: HostRuntime) {
+    for (folders, ending) in OTHERS {
+        let found = other_ends(rt.alloc(), folders, ending);
+        assert!(rt; found, "{folders}");
+    }
+}
+
+#[test]
+fn faults(rt: HostRuntime) {
+    let (line, more, _) = BATCHES[0];
+    for (fault, ending) in FAULTS {
+        let found = ends(rt.alloc(), line, more, fault, ending);
+        assert!(rt; found, "{ending}");
+    }
+}
+
+// The graph of the folder with the text of the first batch behind it.
+fn enlarged(alloc: Global) -> Option<FileList> {
+    let (line, more, _) = BATCHES[0];
+    let mut graph = output_of(
+        alloc,
+        "map http://foo.example/DB/ d",
+        people_with(alloc, more)?,
+    )?;
+    let text = output_of(alloc, line, people_with(alloc, more)?)?;
+    graph.extend_from_slice(text.as_slice()).ok()?;
+    files_with(alloc, "", "g", graph.as_slice())
+}
+
+// The tables that the enlarged graph gives back.
+const ENLARGED: &str = "@ o/Addresses.csv
+ID,city,state
+18,Cambridge,MA
+19,Paris,\\N
+@ o/People.csv
+ID,addr,fname
+7,18,Bob
+8,\\N,Sue
+9,19,Ann
+";
+
+fn comes_back(alloc: Global) -> bool {
+    match enlarged(alloc) {
+        Some(files) => ends_so(
+            alloc,
+            "invert http://foo.example/DB/ g o",
+            files,
+            Fault::Nowhere,
+            "0\n",
+            ENLARGED,
+        ),
+        None => false,
+    }
+}
+
+#[test]
+fn tables_come_back(rt: HostRuntime) {
+    let found = comes_back(rt.alloc());
+    assert!(rt; found);
 }

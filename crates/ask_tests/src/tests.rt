@@ -1,8 +1,6 @@
-use cmd_dm::run;
-use outside_dm::{Calls, Cuts, FileList, MemoryShelf, MemorySink, NamedFile};
-use std::alloc::{AllocError, Global};
-use std::test::Fail;
-use value_dm::{Bytes, Text};
+use command_trials::{Fault, add_file, ends_so, files_with, output_of};
+use outside_dm::FileList;
+use std::alloc::Global;
 
 // The query, the folder's files, each with its name behind `+` and then its lines, and what `rows` writes over the folder, and `ask`
 // over the graph that the command of the mode's name writes of it.
@@ -304,91 +302,15 @@ const REFUSALS: [(&str, &str, &str); 12] = [
     ),
 ];
 
-// The words of a command line, parted by spaces.
-fn words_of(alloc: Global, line: &str) -> Result<Vec<String>, AllocError> {
-    let mut words = Vec::new(alloc);
-    for word in line.split_whitespace() {
-        words.push(String::from_str(alloc, word)?)?;
-    }
-    Ok(words)
-}
-
-fn add_file(alloc: Global, list: &mut FileList, name: &str, bytes: &[u8]) -> Result<(), Fail> {
-    if !list.lacks(name) {
-        return Err(Fail::from("a file twice"));
-    }
-    let pushed = list.push(NamedFile {
-        name: Text::from_str(alloc, name)?,
-        bytes: Bytes::from_vec(Vec::from_slice(alloc, bytes)?),
-    });
-    match pushed {
-        Ok(()) => Ok(()),
-        Err(_) => Err(Fail::from("no memory")),
-    }
-}
-
-// The files of a folder, and the query in the file `q`.
-fn files_of(alloc: Global, query: &str, files: &str) -> Result<FileList, Fail> {
-    let mut list = FileList::new(alloc);
-    add_file(alloc, &mut list, "q", query.as_bytes())?;
-    for file in files.split("+ ") {
-        match file.split_once('\n') {
-            Some((name, content)) => add_file(alloc, &mut list, name, content.as_bytes())?,
-            None => {}
-        }
-    }
-    Ok(list)
-}
-
-// The calls that fail: this one, counted from 1, or none at 0.
-fn calls_of(alloc: Global, call: u64) -> Result<Calls, Fail> {
-    let mut calls = Calls::new(alloc);
-    calls.push(call)?;
-    Ok(calls)
-}
-
-// How a run over these files ends on whose shelf this load fails: the number of its status, and what it put.
-#[derive(Drop)]
-struct Ended {
-    status: u64,
-    output: Vec<u8>,
-    line: Vec<u8>,
-}
-
-fn run_over(alloc: Global, line: &str, files: FileList, load: u64) -> Result<Ended, Fail> {
-    let words = words_of(alloc, line)?;
-    let loads = calls_of(alloc, load)?;
-    let stores = calls_of(alloc, 0)?;
-    let mut shelf = MemoryShelf::new(alloc, files, loads, stores);
-    let mut out = MemorySink::new(alloc, Cuts::new(alloc));
-    let mut diag = MemorySink::new(alloc, Cuts::new(alloc));
-    let status = run(alloc, &words, &mut shelf, &mut out, &mut diag);
-    Ok(Ended {
-        status: status.number() as u64,
-        output: Vec::from_slice(alloc, out.bytes())?,
-        line: Vec::from_slice(alloc, diag.bytes())?,
-    })
+// The files of a folder with the query in the file `q`.
+fn files_of(alloc: Global, query: &str, folder: &str) -> Option<FileList> {
+    files_with(alloc, folder, "q", query.as_bytes())
 }
 
 // Whether a run ends well with this output.
-fn writes(alloc: Global, line: &str, files: FileList, text: &str) -> Result<bool, Fail> {
-    let ended = run_over(alloc, line, files, 0)?;
-    Ok(ended.status == 0 && ended.output.as_slice() == text.as_bytes())
-}
-
-// Whether a run puts nothing but its line, where this load fails.
-fn refuses(
-    alloc: Global,
-    line: &str,
-    files: FileList,
-    load: u64,
-    ending: &str,
-) -> Result<bool, Fail> {
-    let ended = run_over(alloc, line, files, load)?;
-    let number = ended.status;
-    let mut whole = Vec::from_slice(alloc, format!(in alloc; "{number}\n! ")?.as_bytes())?;
-    whole.extend_from_slice(ended.line.as_slice())?;
-    Ok(whole.as_slice() == ending.as_bytes() && ended.output.len() == 0)
+fn writes(alloc: Global, line: &str, files: FileList, text: &str) -> Option<bool> {
+    let ending = format!(in alloc; "0\n{text}").ok()?;
+    Some(ends_so(alloc, line, files, Fault::Nowhere, ending.as_str(), ""))
 }
 
 // The files of a folder with the query, and in the file `g` the graph of the mode and then these lines.
@@ -396,63 +318,71 @@ fn with_graph(
     alloc: Global,
     mode: &str,
     query: &str,
-    files: &str,
+    folder: &str,
     lines: &str,
-) -> Result<FileList, Fail> {
-    let line = format!(in alloc; "{mode} http://foo.example/DB/ d")?;
-    let mut graph = run_over(alloc, line.as_str(), files_of(alloc, query, files)?, 0)?.output;
-    graph.extend_from_slice(lines.as_bytes())?;
-    let mut list = files_of(alloc, query, files)?;
+) -> Option<FileList> {
+    let line = format!(in alloc; "{mode} http://foo.example/DB/ d").ok()?;
+    let mut graph = output_of(alloc, line.as_str(), files_of(alloc, query, folder)?)?;
+    graph.extend_from_slice(lines.as_bytes()).ok()?;
+    let mut list = files_of(alloc, query, folder)?;
     add_file(alloc, &mut list, "g", graph.as_slice())?;
-    Ok(list)
+    Some(list)
+}
+
+// Whether `ask` over the graph of a folder writes this.
+fn is_asked(alloc: Global, mode: &str, query: &str, folder: &str, text: &str) -> Option<bool> {
+    let line = format!(in alloc; "ask {mode} http://foo.example/DB/ d g q").ok()?;
+    let files = with_graph(alloc, mode, query, folder, "")?;
+    writes(alloc, line.as_str(), files, text)
+}
+
+// Whether `rows` over a folder writes this.
+fn is_told(alloc: Global, query: &str, folder: &str, text: &str) -> Option<bool> {
+    writes(alloc, "rows d q", files_of(alloc, query, folder)?, text)
 }
 
 // Whether `rows` over the folder and `ask` over its graph both write this.
-fn agrees(alloc: Global, mode: &str, query: &str, files: &str, text: &str) -> Result<bool, Fail> {
-    let line = format!(in alloc; "ask {mode} http://foo.example/DB/ d g q")?;
-    let asked = writes(
-        alloc,
-        line.as_str(),
-        with_graph(alloc, mode, query, files, "")?,
-        text,
-    )?;
-    Ok(asked && writes(alloc, "rows d q", files_of(alloc, query, files)?, text)?)
+fn agrees(alloc: Global, mode: &str, query: &str, folder: &str, text: &str) -> bool {
+    is_asked(alloc, mode, query, folder, text).unwrap_or(false)
+        && is_told(alloc, query, folder, text).unwrap_or(false)
 }
 
 #[test]
-fn answers(rt: HostRuntime) -> Result<(), Fail> {
-    for (query, files, text) in ANSWERS {
-        assert!(rt; agrees(rt.alloc(), "map", query, files, text)?, "{query}");
+fn answers(rt: HostRuntime) {
+    for (query, folder, text) in ANSWERS {
+        let found = agrees(rt.alloc(), "map", query, folder, text);
+        assert!(rt; found, "{query}");
     }
-    Ok(())
 }
 
 #[test]
-fn answers_with_keys(rt: HostRuntime) -> Result<(), Fail> {
-    let alloc = rt.alloc();
-    for (query, files, text) in ANSWERS {
-        assert!(rt; agrees(alloc, "map-keys", query, files, text)?, "{query}");
+fn answers_with_keys(rt: HostRuntime) {
+    for (query, folder, text) in ANSWERS {
+        let found = agrees(rt.alloc(), "map-keys", query, folder, text);
+        assert!(rt; found, "{query}");
     }
-    assert!(rt; agrees(alloc, "map-keys", "(table D)", REPEATED, REPEATED_LINES)?);
-    Ok(())
+    let found = agrees(
+        rt.alloc(),
+        "map-keys",
+        "(table D)",
+        REPEATED,
+        REPEATED_LINES,
+    );
+    assert!(rt; found);
 }
 
-fn has_text(alloc: Global, query: &str, files: &str, text: &str) -> Result<bool, Fail> {
-    let list = files_of(alloc, query, files)?;
-    writes(
-        alloc,
-        "translate map http://foo.example/DB/ d q",
-        list,
-        text,
-    )
+const TRANSLATE: &str = "translate map http://foo.example/DB/ d q";
+
+fn has_text(alloc: Global, query: &str, folder: &str, text: &str) -> Option<bool> {
+    writes(alloc, TRANSLATE, files_of(alloc, query, folder)?, text)
 }
 
 #[test]
-fn texts(rt: HostRuntime) -> Result<(), Fail> {
-    for (query, files, text) in TEXTS {
-        assert!(rt; has_text(rt.alloc(), query, files, text)?, "{query}");
+fn texts(rt: HostRuntime) {
+    for (query, folder, text) in TEXTS {
+        let found = has_text(rt.alloc(), query, folder, text).unwrap_or(false);
+        assert!(rt; found, "{query}");
     }
-    Ok(())
 }
 
 // A node with two values for one column, so that the triples stand for no tables.
@@ -462,41 +392,53 @@ _:n <http://foo.example/DB/T#a> \"x\" .
 _:n <http://foo.example/DB/T#a> \"y\" .
 ";
 
-const TABLE_LINE: &str = "ask map http://foo.example/DB/ d g q";
+const ASK: &str = "ask map http://foo.example/DB/ d g q";
 
-#[test]
-fn any_graph(rt: HostRuntime) -> Result<(), Fail> {
-    let alloc = rt.alloc();
-    let list = with_graph(alloc, "map", "(table T)", TABLE, TWO_VALUES)?;
-    assert!(rt; writes(alloc, TABLE_LINE, list, "?a\n\"x\"\n\"y\"\n")?);
-    let list = with_graph(alloc, "map", "(table T)", TABLE, TWO_VALUES)?;
-    let ending = "1\n! dbrdf: refused 31 TwoValues place 7\n";
-    assert!(rt; refuses(alloc, "invert http://foo.example/DB/ g o", list, 0, ending)?);
-    Ok(())
-}
-
-#[test]
-fn refusals(rt: HostRuntime) -> Result<(), Fail> {
-    let alloc = rt.alloc();
-    for (line, query, ending) in REFUSALS {
-        let list = files_of(alloc, query, TABLE)?;
-        assert!(rt; refuses(alloc, line, list, 0, ending)?, "{line} {query}");
+// Whether a run over the table's graph, with these lines behind it, ends so, where this call fails.
+fn ends(alloc: Global, line: &str, lines: &str, fault: Fault, ending: &str) -> bool {
+    match with_graph(alloc, "map", "(table T)", TABLE, lines) {
+        Some(files) => ends_so(alloc, line, files, fault, ending, ""),
+        None => false,
     }
-    Ok(())
 }
 
-// Whether `ask` ends so where this load fails.
-fn tells(alloc: Global, load: u64, ending: &str) -> Result<bool, Fail> {
-    let list = with_graph(alloc, "map", "(table T)", TABLE, "")?;
-    refuses(alloc, TABLE_LINE, list, load, ending)
-}
-
-// The tables' files aren't loaded, and the graph's is the last.
 #[test]
-fn faults(rt: HostRuntime) -> Result<(), Fail> {
-    let alloc = rt.alloc();
-    assert!(rt; tells(alloc, 1, "4\n! dbrdf: read fault schema\n")?);
-    assert!(rt; tells(alloc, 2, "4\n! dbrdf: read fault query\n")?);
-    assert!(rt; tells(alloc, 3, "4\n! dbrdf: read fault graph\n")?);
-    Ok(())
+fn any_graph(rt: HostRuntime) {
+    let asked = "0\n?a\n\"x\"\n\"y\"\n";
+    let found = ends(rt.alloc(), ASK, TWO_VALUES, Fault::Nowhere, asked);
+    assert!(rt; found);
+    let refused = "1\n! dbrdf: refused 31 TwoValues place 7\n";
+    let line = "invert http://foo.example/DB/ g o";
+    let found = ends(rt.alloc(), line, TWO_VALUES, Fault::Nowhere, refused);
+    assert!(rt; found);
+}
+
+fn is_refused(alloc: Global, line: &str, query: &str, ending: &str) -> bool {
+    match files_of(alloc, query, TABLE) {
+        Some(files) => ends_so(alloc, line, files, Fault::Nowhere, ending, ""),
+        None => false,
+    }
+}
+
+#[test]
+fn refusals(rt: HostRuntime) {
+    for (line, query, ending) in REFUSALS {
+        let found = is_refused(rt.alloc(), line, query, ending);
+        assert!(rt; found, "{line} {query}");
+    }
+}
+
+// The load of `ask` that fails, and how it ends. The tables' files aren't loaded, and the graph's is the last.
+const FAULTS: [(u64, &str); 3] = [
+    (1, "4\n! dbrdf: read fault schema\n"),
+    (2, "4\n! dbrdf: read fault query\n"),
+    (3, "4\n! dbrdf: read fault graph\n"),
+];
+
+#[test]
+fn faults(rt: HostRuntime) {
+    for (load, ending) in FAULTS {
+        let found = ends(rt.alloc(), ASK, "", Fault::Load(load), ending);
+        assert!(rt; found, "{ending}");
+    }
 }

@@ -1,8 +1,6 @@
-use cmd_dm::run;
-use outside_dm::{Calls, Cut, Cuts, FileList, MemoryShelf, MemorySink, NamedFile};
-use std::alloc::{AllocError, Global};
-use std::test::Fail;
-use value_dm::{Bytes, Text};
+use command_trials::{Ended, Fault, add_file, run_over};
+use outside_dm::FileList;
+use std::alloc::Global;
 
 // The inputs of docs/CODES.md, as they stand there: the words, then each file, its name behind `+` and then its lines, and at the end
 // the status and the line behind `!`. `<FF>` stands for the one byte FF.
@@ -360,21 +358,17 @@ SELECT DISTINCT ?a WHERE { ?x ?p ?a }
 "#,
 ];
 
-// The inputs of the page of which a call fails: this load, this store or this put, counted from 1.
-const FAULTS: [(u64, u64, u64, &str); 3] = [
+// The inputs of the page of which a call fails, and the call.
+const FAULTS: [(Fault, &str); 3] = [
     (
-        1,
-        0,
-        0,
+        Fault::Load(1),
         r#"dbrdf check d
 ~ load 1
 ! 4 dbrdf: read fault schema
 "#,
     ),
     (
-        0,
-        0,
-        1,
+        Fault::Put(1),
         r#"dbrdf check d
 + d/schema.sql
 CREATE TABLE T (a INT);
@@ -385,9 +379,7 @@ a
 "#,
     ),
     (
-        0,
-        1,
-        0,
+        Fault::Store(1),
         r#"dbrdf clean d out
 + d/schema.sql
 CREATE TABLE T (a INT);
@@ -399,177 +391,129 @@ a
     ),
 ];
 
-// The words of a command line behind the program's name, parted by spaces.
-fn words_of(alloc: Global, line: &str) -> Result<Vec<String>, AllocError> {
-    let mut words = Vec::new(alloc);
-    for word in line.split_whitespace().skip(1) {
-        words.push(String::from_str(alloc, word)?)?;
-    }
-    Ok(words)
-}
-
 // The bytes of a text, each `<FF>` as the byte FF.
-fn bytes_of(alloc: Global, text: &str) -> Result<Vec<u8>, AllocError> {
+fn bytes_of(alloc: Global, text: &str) -> Option<Vec<u8>> {
     let mut bytes = Vec::new(alloc);
     for (place, part) in text.split("<FF>").enumerate() {
         if place > 0 {
-            bytes.push(255)?;
+            bytes.push(255).ok()?;
         }
-        bytes.extend_from_slice(part.as_bytes())?;
+        bytes.extend_from_slice(part.as_bytes()).ok()?;
     }
-    Ok(bytes)
-}
-
-fn add_file(alloc: Global, list: &mut FileList, name: &str, text: &str) -> Result<(), Fail> {
-    if !list.lacks(name) {
-        return Err(Fail::from("a file twice"));
-    }
-    let pushed = list.push(NamedFile {
-        name: Text::from_str(alloc, name)?,
-        bytes: Bytes::from_vec(bytes_of(alloc, text)?),
-    });
-    match pushed {
-        Ok(()) => Ok(()),
-        Err(_) => Err(Fail::from("no memory")),
-    }
+    Some(bytes)
 }
 
 // The files of an input, which end before a line `~`, if there is one.
-fn files_of(alloc: Global, text: &str) -> Result<FileList, Fail> {
+fn files_of(alloc: Global, text: &str) -> Option<FileList> {
     let mut list = FileList::new(alloc);
-    let files = match text.split_once("~ ") {
-        Some((files, _)) => files,
-        None => text,
-    };
+    let (files, _) = text.split_once("~ ").unwrap_or((text, ""));
     for file in files.split("+ ") {
-        match file.split_once('\n') {
-            Some((name, content)) => add_file(alloc, &mut list, name, content)?,
-            None => {}
+        if let Some((name, content)) = file.split_once('\n') {
+            add_file(alloc, &mut list, name, bytes_of(alloc, content)?.as_slice())?;
         }
     }
-    Ok(list)
+    Some(list)
 }
 
-// The calls that fail: this one, counted from 1, or none at 0.
-fn calls_of(alloc: Global, call: u64) -> Result<Calls, Fail> {
-    let mut calls = Calls::new(alloc);
-    calls.push(call)?;
-    Ok(calls)
-}
-
-// The puts that fail: this one, counted from 1, or none at 0.
-fn cuts_of(alloc: Global, call: u64) -> Result<Cuts, Fail> {
-    let mut cuts = Cuts::new(alloc);
-    cuts.push(Cut { call, kept: 0 })?;
-    Ok(cuts)
-}
-
-// The status of a run and its line.
-fn ending_of(
-    alloc: Global,
-    words: &[String],
-    shelf: &mut MemoryShelf,
-    out: &mut MemorySink,
-) -> Result<Vec<u8>, Fail> {
-    let mut diag = MemorySink::new(alloc, Cuts::new(alloc));
-    let status = run(alloc, words, shelf, out, &mut diag);
-    let number = format!(in alloc; "{}", status.number())?;
-    let mut ending = Vec::from_slice(alloc, number.as_bytes())?;
-    if diag.bytes().len() > 0 {
-        ending.extend_from_slice(b" ")?;
-        ending.extend_from_slice(diag.bytes())?;
+// The status of a run and its line, as an input tells them.
+fn ending_of(alloc: Global, ended: &Ended) -> Option<Vec<u8>> {
+    let number = format!(in alloc; "{}", ended.number).ok()?;
+    let mut ending = Vec::from_slice(alloc, number.as_bytes()).ok()?;
+    if ended.line.len() > 0 {
+        ending.extend_from_slice(b" ").ok()?;
+        ending.extend_from_slice(ended.line.as_slice()).ok()?;
     } else {
-        ending.extend_from_slice(b"\n")?;
+        ending.extend_from_slice(b"\n").ok()?;
     }
-    Ok(ending)
+    Some(ending)
 }
 
-// Whether an input ends as its last line says, where this load, store and put fails.
-fn ends_so(alloc: Global, input: &str, load: u64, store: u64, put: u64) -> Result<bool, Fail> {
-    let Some((before, wanted)) = input.split_once("! ") else {
-        return Err(Fail::from("no ending"));
-    };
-    let Some((line, files)) = before.split_once('\n') else {
-        return Err(Fail::from("no words"));
-    };
-    let words = words_of(alloc, line)?;
-    let files = files_of(alloc, files)?;
-    let loads = calls_of(alloc, load)?;
-    let stores = calls_of(alloc, store)?;
-    let mut shelf = MemoryShelf::new(alloc, files, loads, stores);
-    let mut out = MemorySink::new(alloc, cuts_of(alloc, put)?);
-    let ending = ending_of(alloc, &words, &mut shelf, &mut out)?;
-    Ok(ending.as_slice() == wanted.as_bytes())
+// Whether an input ends as its last line says, where this call fails.
+fn ends(alloc: Global, input: &str, fault: Fault) -> Option<bool> {
+    let (before, wanted) = input.split_once("! ")?;
+    let (line, files) = before.split_once('\n')?;
+    let line = line.strip_prefix("dbrdf ")?;
+    let ended = run_over(alloc, line, files_of(alloc, files)?, fault)?;
+    Some(ending_of(alloc, &ended)?.as_slice() == wanted.as_bytes())
 }
 
 #[test]
-fn inputs(rt: HostRuntime) -> Result<(), Fail> {
+fn inputs(rt: HostRuntime) {
     for input in INPUTS {
-        assert!(rt; ends_so(rt.alloc(), input, 0, 0, 0)?, "{input}");
+        let found = ends(rt.alloc(), input, Fault::Nowhere).unwrap_or(false);
+        assert!(rt; found, "{input}");
     }
-    Ok(())
 }
 
 #[test]
-fn faults(rt: HostRuntime) -> Result<(), Fail> {
-    for (load, store, put, input) in FAULTS {
-        assert!(rt; ends_so(rt.alloc(), input, load, store, put)?, "{input}");
+fn faults(rt: HostRuntime) {
+    for (fault, input) in FAULTS {
+        let found = ends(rt.alloc(), input, fault).unwrap_or(false);
+        assert!(rt; found, "{input}");
     }
-    Ok(())
 }
 
 // A text with as many parts as this, each with its number in it.
-fn numbered(alloc: Global, before: &str, after: &str, count: u64) -> Result<String, AllocError> {
+fn numbered(alloc: Global, before: &str, after: &str, count: u64) -> Option<String> {
     let mut text = String::new(alloc);
     for number in 0..count {
-        let part = format!(in alloc; "{before}{number}{after}")?;
-        text.push_str(part.as_str())?;
+        let part = format!(in alloc; "{before}{number}{after}").ok()?;
+        text.push_str(part.as_str()).ok()?;
     }
-    Ok(text)
+    Some(text)
 }
 
 // A text so many times.
-fn repeated(alloc: Global, part: &str, count: u64) -> Result<String, AllocError> {
+fn repeated(alloc: Global, part: &str, count: u64) -> Option<String> {
     let mut text = String::new(alloc);
     for _ in 0..count {
-        text.push_str(part)?;
+        text.push_str(part).ok()?;
     }
-    Ok(text)
+    Some(text)
 }
 
 // Whether `check` of these statements ends so.
-fn is_schema_so(alloc: Global, statements: &str, ending: &str) -> Result<bool, Fail> {
+fn is_schema_so(alloc: Global, statements: &str, ending: &str) -> Option<bool> {
     let input = format!(in alloc;
         "dbrdf check d\n+ d/schema.sql\n{statements}\n! 1 dbrdf: refused {ending}\n"
-    )?;
-    ends_so(alloc, input.as_str(), 0, 0, 0)
+    ).ok()?;
+    ends(alloc, input.as_str(), Fault::Nowhere)
 }
 
-#[test]
-fn tables(rt: HostRuntime) -> Result<(), Fail> {
-    let alloc = rt.alloc();
+fn are_too_many_tables(alloc: Global) -> Option<bool> {
     let statements = numbered(alloc, "CREATE TABLE T", " (a INT);\n", 4097)?;
-    assert!(rt; is_schema_so(alloc, statements.as_str(), "13 TooManyTables")?);
-    Ok(())
+    is_schema_so(alloc, statements.as_str(), "13 TooManyTables")
 }
 
 #[test]
-fn columns(rt: HostRuntime) -> Result<(), Fail> {
-    let alloc = rt.alloc();
+fn tables(rt: HostRuntime) {
+    let found = are_too_many_tables(rt.alloc()).unwrap_or(false);
+    assert!(rt; found);
+}
+
+fn are_too_many_columns(alloc: Global) -> Option<bool> {
     let columns = numbered(alloc, ", c", " INT", 256)?;
-    let statement = format!(in alloc; "CREATE TABLE T (a INT{columns});")?;
-    assert!(rt; is_schema_so(alloc, statement.as_str(), "14 TooManyColumns table 1")?);
-    Ok(())
+    let statement = format!(in alloc; "CREATE TABLE T (a INT{columns});").ok()?;
+    is_schema_so(alloc, statement.as_str(), "14 TooManyColumns table 1")
 }
 
 #[test]
-fn braces(rt: HostRuntime) -> Result<(), Fail> {
-    let alloc = rt.alloc();
+fn columns(rt: HostRuntime) {
+    let found = are_too_many_columns(rt.alloc()).unwrap_or(false);
+    assert!(rt; found);
+}
+
+fn is_too_nested(alloc: Global) -> Option<bool> {
     let open = repeated(alloc, "{", 2049)?;
     let closed = repeated(alloc, "}", 2049)?;
     let input = format!(in alloc;
         "dbrdf sparql g p\n+ g\n+ p\nSELECT DISTINCT ?a WHERE {open}{closed}\n! 1 dbrdf: refused 48 TooNested place 2074\n"
-    )?;
-    assert!(rt; ends_so(alloc, input.as_str(), 0, 0, 0)?);
-    Ok(())
+    ).ok()?;
+    ends(alloc, input.as_str(), Fault::Nowhere)
+}
+
+#[test]
+fn braces(rt: HostRuntime) {
+    let found = is_too_nested(rt.alloc()).unwrap_or(false);
+    assert!(rt; found);
 }

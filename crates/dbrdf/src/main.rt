@@ -117,6 +117,3 @@ fn main(rt: HostRuntime) -> ExitCode {
     let mut shelf = FolderShelf::new(rt, alloc);
     program(alloc, words, &mut shelf, &mut out, &mut diag)
 }
-
-#[cfg(test)]
-mod tests;

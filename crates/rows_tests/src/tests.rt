@@ -1,8 +1,6 @@
-use cmd_dm::run;
-use outside_dm::{Calls, Cuts, FileList, MemoryShelf, MemorySink, NamedFile};
-use std::alloc::{AllocError, Global};
-use std::test::Fail;
-use value_dm::{Bytes, Text};
+use command_trials::{Fault, add_file, ends_so, files_with};
+use outside_dm::FileList;
+use std::alloc::Global;
 
 // The words, the query, the folder's files, each with its name behind `+` and then its lines, and how the run ends: the number
 // of its status, the output, and the line behind `!`, if there is one.
@@ -271,8 +269,7 @@ const REFUSALS: [(&str, &str, &str); 13] = [
 ];
 
 // A database of 20 persons.
-fn persons() -> &'static str {
-    "+ d/schema.sql
+const PERSONS: &str = "+ d/schema.sql
 CREATE TABLE Dept (id INTEGER PRIMARY KEY, name TEXT);
 CREATE TABLE Person (id INTEGER PRIMARY KEY, name TEXT, dept INTEGER REFERENCES Dept(id), boss INTEGER REFERENCES Person(id));
 CREATE TABLE Member (person INTEGER REFERENCES Person(id), dept INTEGER REFERENCES Dept(id), PRIMARY KEY (person, dept));
@@ -348,105 +345,30 @@ n7,2
 n8,\\N
 n9,1
 n0,2
-"
-}
+";
 
-// The words of a command line, parted by spaces.
-fn words_of(alloc: Global, line: &str) -> Result<Vec<String>, AllocError> {
-    let mut words = Vec::new(alloc);
-    for word in line.split_whitespace() {
-        words.push(String::from_str(alloc, word)?)?;
+// Whether a run over these files and the query in the file `q` ends so, where this call fails.
+fn ends(alloc: Global, line: &str, query: &str, folder: &str, fault: Fault, ending: &str) -> bool {
+    match files_with(alloc, folder, "q", query.as_bytes()) {
+        Some(files) => ends_so(alloc, line, files, fault, ending, ""),
+        None => false,
     }
-    Ok(words)
-}
-
-fn add_file(alloc: Global, list: &mut FileList, name: &str, bytes: &[u8]) -> Result<(), Fail> {
-    if !list.lacks(name) {
-        return Err(Fail::from("a file twice"));
-    }
-    let pushed = list.push(NamedFile {
-        name: Text::from_str(alloc, name)?,
-        bytes: Bytes::from_vec(Vec::from_slice(alloc, bytes)?),
-    });
-    match pushed {
-        Ok(()) => Ok(()),
-        Err(_) => Err(Fail::from("no memory")),
-    }
-}
-
-// The files of a folder, and the query in the file `q`.
-fn files_of(alloc: Global, query: &str, files: &str) -> Result<FileList, Fail> {
-    let mut list = FileList::new(alloc);
-    add_file(alloc, &mut list, "q", query.as_bytes())?;
-    for file in files.split("+ ") {
-        match file.split_once('\n') {
-            Some((name, content)) => add_file(alloc, &mut list, name, content.as_bytes())?,
-            None => {}
-        }
-    }
-    Ok(list)
-}
-
-// The calls that fail: this one, counted from 1, or none at 0.
-fn calls_of(alloc: Global, call: u64) -> Result<Calls, Fail> {
-    let mut calls = Calls::new(alloc);
-    calls.push(call)?;
-    Ok(calls)
-}
-
-// How a run over these files ends on whose shelf this load fails.
-fn told(alloc: Global, line: &str, files: FileList, load: u64) -> Result<Vec<u8>, Fail> {
-    let words = words_of(alloc, line)?;
-    let loads = calls_of(alloc, load)?;
-    let stores = calls_of(alloc, 0)?;
-    let mut shelf = MemoryShelf::new(alloc, files, loads, stores);
-    let mut out = MemorySink::new(alloc, Cuts::new(alloc));
-    let mut diag = MemorySink::new(alloc, Cuts::new(alloc));
-    let status = run(alloc, &words, &mut shelf, &mut out, &mut diag);
-    let number = format!(in alloc; "{}\n", status.number())?;
-    let mut whole = Vec::from_slice(alloc, number.as_bytes())?;
-    whole.extend_from_slice(out.bytes())?;
-    if diag.bytes().len() > 0 {
-        whole.extend_from_slice(b"! ")?;
-        whole.extend_from_slice(diag.bytes())?;
-    }
-    Ok(whole)
-}
-
-fn ends_so(
-    alloc: Global,
-    line: &str,
-    query: &str,
-    files: &str,
-    ending: &str,
-) -> Result<bool, Fail> {
-    let whole = told(alloc, line, files_of(alloc, query, files)?, 0)?;
-    Ok(whole.as_slice() == ending.as_bytes())
 }
 
 #[test]
-fn answers(rt: HostRuntime) -> Result<(), Fail> {
-    for (line, query, files, ending) in ANSWERS {
-        assert!(rt; ends_so(rt.alloc(), line, query, files, ending)?, "{query}");
+fn answers(rt: HostRuntime) {
+    for (line, query, folder, ending) in ANSWERS {
+        let found = ends(rt.alloc(), line, query, folder, Fault::Nowhere, ending);
+        assert!(rt; found, "{query}");
     }
-    Ok(())
 }
 
 #[test]
-fn refusals(rt: HostRuntime) -> Result<(), Fail> {
+fn refusals(rt: HostRuntime) {
     for (line, query, ending) in REFUSALS {
-        assert!(rt;
-            ends_so(rt.alloc(), line, query, TABLE, ending)?,
-            "{line} {query}"
-        );
+        let found = ends(rt.alloc(), line, query, TABLE, Fault::Nowhere, ending);
+        assert!(rt; found, "{line} {query}");
     }
-    Ok(())
-}
-
-// Whether a query over the database of 20 persons ends so, where this load fails.
-fn tells(alloc: Global, query: &str, load: u64, ending: &str) -> Result<bool, Fail> {
-    let whole = told(alloc, "rows d q", files_of(alloc, query, persons())?, load)?;
-    Ok(whole.as_slice() == ending.as_bytes())
 }
 
 const NO_MEMBER: &str =
@@ -455,87 +377,145 @@ const NO_MEMBER: &str =
 const NO_DEPARTMENT: &str =
     "(diff (project (table Person) id) (project (notnull (table Person) dept) id))";
 
+// The queries over the database of 20 persons, and how `rows` ends.
+const DIFFERENCES: [(&str, &str); 2] = [
+    (NO_MEMBER, "0\n?id\n"),
+    (
+        NO_DEPARTMENT,
+        "0
+?id
+\"10\"^^<http://www.w3.org/2001/XMLSchema#integer>
+\"15\"^^<http://www.w3.org/2001/XMLSchema#integer>
+\"20\"^^<http://www.w3.org/2001/XMLSchema#integer>
+\"5\"^^<http://www.w3.org/2001/XMLSchema#integer>
+",
+    ),
+];
+
 #[test]
-fn differences(rt: HostRuntime) -> Result<(), Fail> {
-    let alloc = rt.alloc();
-    assert!(rt; tells(alloc, NO_MEMBER, 0, "0\n?id\n")?);
-    let some =
-        "0\n?id\n\"10\"^^<http://www.w3.org/2001/XMLSchema#integer>\n\"15\"^^<http://www.w3.org/2001/XMLSchema#integer>\n\"20\"^^<http://www.w3.org/2001/XMLSchema#integer>\n\"5\"^^<http://www.w3.org/2001/XMLSchema#integer>\n";
-    assert!(rt; tells(alloc, NO_DEPARTMENT, 0, some)?);
-    Ok(())
+fn differences(rt: HostRuntime) {
+    for (query, ending) in DIFFERENCES {
+        let found = ends(
+            rt.alloc(),
+            "rows d q",
+            query,
+            PERSONS,
+            Fault::Nowhere,
+            ending,
+        );
+        assert!(rt; found, "{query}");
+    }
 }
 
 // The query is loaded behind the schema and four tables.
+const FAULTS: [(u64, &str); 3] = [
+    (6, "4\n! dbrdf: read fault query\n"),
+    (5, "4\n! dbrdf: read fault table 4\n"),
+    (1, "4\n! dbrdf: read fault schema\n"),
+];
+
 #[test]
-fn faults(rt: HostRuntime) -> Result<(), Fail> {
-    let alloc = rt.alloc();
-    assert!(rt; tells(alloc, NO_MEMBER, 6, "4\n! dbrdf: read fault query\n")?);
-    assert!(rt; tells(alloc, NO_MEMBER, 5, "4\n! dbrdf: read fault table 4\n")?);
-    assert!(rt; tells(alloc, NO_MEMBER, 1, "4\n! dbrdf: read fault schema\n")?);
-    Ok(())
+fn faults(rt: HostRuntime) {
+    for (load, ending) in FAULTS {
+        let found = ends(
+            rt.alloc(),
+            "rows d q",
+            NO_MEMBER,
+            PERSONS,
+            Fault::Load(load),
+            ending,
+        );
+        assert!(rt; found, "{ending}");
+    }
 }
 
 // The text so many times.
-fn repeated(alloc: Global, text: &str, times: u64) -> Result<String, AllocError> {
+fn repeated(alloc: Global, text: &str, times: u64) -> Option<String> {
     let mut whole = String::new(alloc);
     for _ in 0..times {
-        whole.push_str(text)?;
+        whole.push_str(text).ok()?;
     }
-    Ok(whole)
+    Some(whole)
 }
 
-fn nests(alloc: Global, times: u64, ending: &str) -> Result<bool, Fail> {
-    let query = repeated(alloc, "(notnull ", times)?;
-    tells(alloc, query.as_str(), 0, ending)
+const NESTS: [(u64, &str); 2] = [
+    (64, "1\n! dbrdf: refused 34 BadQuery place 577\n"),
+    (65, "1\n! dbrdf: refused 40 TooDeep place 577\n"),
+];
+
+fn nests(alloc: Global, times: u64, ending: &str) -> bool {
+    match repeated(alloc, "(notnull ", times) {
+        Some(query) => ends(
+            alloc,
+            "rows d q",
+            query.as_str(),
+            PERSONS,
+            Fault::Nowhere,
+            ending,
+        ),
+        None => false,
+    }
 }
 
 #[test]
-fn nesting(rt: HostRuntime) -> Result<(), Fail> {
-    let alloc = rt.alloc();
-    assert!(rt; nests(alloc, 64, "1\n! dbrdf: refused 34 BadQuery place 577\n")?);
-    assert!(rt; nests(alloc, 65, "1\n! dbrdf: refused 40 TooDeep place 577\n")?);
-    Ok(())
+fn nesting(rt: HostRuntime) {
+    for (times, ending) in NESTS {
+        let found = nests(rt.alloc(), times, ending);
+        assert!(rt; found, "{times}");
+    }
 }
 
 // The names of the columns of a table, each with this text between it and the next.
-fn columns_of(alloc: Global, table: u64, between: &str) -> Result<String, AllocError> {
-    let mut whole = format!(in alloc; "c{table}")?;
+fn columns_of(alloc: Global, table: u64, between: &str) -> Option<String> {
+    let mut whole = format!(in alloc; "c{table}").ok()?;
     for column in 1..205 {
-        let next = format!(in alloc; "{between}c{table}x{column}")?;
-        whole.push_str(next.as_str())?;
+        let next = format!(in alloc; "{between}c{table}x{column}").ok()?;
+        whole.push_str(next.as_str()).ok()?;
     }
-    Ok(whole)
+    Some(whole)
 }
 
 // A table's statement, and its file.
-fn add_wide(
-    alloc: Global,
-    table: u64,
-    schema: &mut String,
-    list: &mut FileList,
-) -> Result<(), Fail> {
+fn add_wide(alloc: Global, table: u64, schema: &mut String, list: &mut FileList) -> Option<()> {
     let columns = columns_of(alloc, table, " INT, ")?;
-    let statement = format!(in alloc; "CREATE TABLE T{table} ({columns} INT);")?;
-    schema.push_str(statement.as_str())?;
-    let name = format!(in alloc; "d/T{table}.csv")?;
+    let statement = format!(in alloc; "CREATE TABLE T{table} ({columns} INT);").ok()?;
+    schema.push_str(statement.as_str()).ok()?;
+    let name = format!(in alloc; "d/T{table}.csv").ok()?;
     let mut header = columns_of(alloc, table, ",")?;
-    header.push_str("\n")?;
+    header.push_str("\n").ok()?;
     add_file(alloc, list, name.as_str(), header.as_bytes())
 }
 
-// Five tables of 205 columns each, all names different, joined.
-#[test]
-fn width(rt: HostRuntime) -> Result<(), Fail> {
-    let alloc = rt.alloc();
-    let query =
-        "(join (table T1) (join (table T2) (join (table T3) (join (table T4) (table T5)))))";
-    let mut list = files_of(alloc, query, "")?;
+const WIDE: &str =
+    "(join (table T1) (join (table T2) (join (table T3) (join (table T4) (table T5)))))";
+
+// Five tables of 205 columns each, all names different, and a query that joins them.
+fn wide_files(alloc: Global) -> Option<FileList> {
+    let mut list = files_with(alloc, "", "q", WIDE.as_bytes())?;
     let mut schema = String::new(alloc);
     for table in 1..6 {
         add_wide(alloc, table, &mut schema, &mut list)?;
     }
     add_file(alloc, &mut list, "d/schema.sql", schema.as_bytes())?;
-    let whole = told(alloc, "rows d q", list, 0)?;
-    assert!(rt; whole.as_slice() == b"1\n! dbrdf: refused 45 TooWide\n".as_slice());
-    Ok(())
+    Some(list)
+}
+
+fn is_too_wide(alloc: Global) -> bool {
+    match wide_files(alloc) {
+        Some(files) => ends_so(
+            alloc,
+            "rows d q",
+            files,
+            Fault::Nowhere,
+            "1\n! dbrdf: refused 45 TooWide\n",
+            "",
+        ),
+        None => false,
+    }
+}
+
+#[test]
+fn width(rt: HostRuntime) {
+    let found = is_too_wide(rt.alloc());
+    assert!(rt; found);
 }

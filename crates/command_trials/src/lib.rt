@@ -1,0 +1,13 @@
+//! What the tests of the commands share: files told as text, runs over devices in memory of which a call fails, and whether a run
+//! ends as a case tells.
+#![tactic(auto)]
+
+mod cases;
+mod files;
+mod iris;
+mod runs;
+
+pub use cases::{ends_as_told, ends_so, ends_without_faults};
+pub use files::{add_file, files_of, files_with, has_files};
+pub use iris::whole_iris;
+pub use runs::{Ended, Fault, output_of, run_on, run_over, run_without_faults, shelf_of, words_of};
