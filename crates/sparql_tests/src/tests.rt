@@ -164,11 +164,10 @@ SELECT DISTINCT ?a WHERE { { ?s <http://a.example/p> ?a . } MINUS { ?s <http://a
 <http://a.example/s> <http://a.example/p> \"1\" .
 <http://a.example/s> <http://a.example/p> \"1\"@en .
 + p
-SELECT DISTINCT ?a WHERE { { ?s <http://a.example/p> ?a . } FILTER ( ( ( ! sameTerm(?a, \"1\"@EN) ) && bound(?a) ) ) }
+SELECT DISTINCT ?a WHERE { { ?s <http://a.example/p> ?a . } FILTER ( ( ( ! sameTerm(?a, \"1\"@en) ) && bound(?a) ) ) }
 = 0
 ?a
 \"1\"
-\"1\"@en
 ",
     // New names.
     "sparql g p
@@ -203,7 +202,8 @@ ID,fname,addr
 8,Sue,\\N
 ";
 
-const PEOPLE: &str = "SELECT DISTINCT ?ID ?addr ?fname WHERE { SELECT ?ID ?addr ?fname WHERE { { { { ?_r <http://www.w3.org/1999/02/22-rdf-syntax-ns#type> <http://foo.example/DB/People> . } { ?_r <http://foo.example/DB/People#ID> ?ID . } } OPTIONAL { { ?_r <http://foo.example/DB/People#fname> ?fname . } } } OPTIONAL { { ?_r <http://foo.example/DB/People#addr> ?addr . } } } }";
+const PEOPLE: &str =
+    "SELECT DISTINCT ?ID ?addr ?fname WHERE { SELECT ?ID ?addr ?fname WHERE { { { { ?_r <http://www.w3.org/1999/02/22-rdf-syntax-ns#type> <http://foo.example/DB/People> . } { ?_r <http://foo.example/DB/People#ID> ?ID . } } OPTIONAL { { ?_r <http://foo.example/DB/People#fname> ?fname . } } } OPTIONAL { { ?_r <http://foo.example/DB/People#addr> ?addr . } } } }";
 
 const PEOPLE_LINES: &str = "0
 ?ID\t?addr\t?fname
@@ -213,7 +213,11 @@ const PEOPLE_LINES: &str = "0
 
 // Whether the text over the folder's map graph ends so, where this load fails.
 fn answers(alloc: Global, fault: Fault, ending: &str) -> Option<bool> {
-    let graph = output_of(alloc, "map http://foo.example/DB/ d", files_of(alloc, FOLDER)?)?;
+    let graph = output_of(
+        alloc,
+        "map http://foo.example/DB/ d",
+        files_of(alloc, FOLDER)?,
+    )?;
     let mut files = files_with(alloc, "", "p", PEOPLE.as_bytes())?;
     add_file(alloc, &mut files, "g", graph.as_slice())?;
     Some(ends_so(alloc, "sparql g p", files, fault, ending, ""))

@@ -5,7 +5,9 @@ ghost use Rattle.solutions_dm.specs.Selects as selects;
 ghost use Rattle.sparql_text_dm.specs.Reading.{all_targets_at, begins_target, new_name_at, other_name_at, other_target_at, same_target_at, target_at};
 ghost use Rattle.sparql_text_dm.specs.Words.{named, new_name_of, other_name_of};
 
-use crate::reader::{Read, has_sign, has_variable, sign, starts_with_sign, variable, variable_of, word};
+use crate::reader::{
+    Read, has_sign, has_variable, sign, starts_with_sign, variable, variable_of, word,
+};
 use grammar_dm::ReadError;
 use names_dm::Var;
 use solutions_dm::{Rename, Renames};
@@ -30,7 +32,13 @@ fn new_name_of<'a>(taken: &[Rename], token: &'a Placed) -> Option<&'a Var>
     ensures { named result ≡ new_name_of taken.now token.now.token }
 {
     match variable_of(token) {
-        Some(name) => { if is_target(taken, name) { None } else { Some(name) } }
+        Some(name) => {
+            if is_target(taken, name) {
+                None
+            } else {
+                Some(name)
+            }
+        }
         None => None,
     }
 }
