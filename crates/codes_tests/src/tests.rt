@@ -1,5 +1,4 @@
-use command_trials::{Ended, Fault, add_file, run_over};
-use outside_dm::FileList;
+use command_trials::{Ended, Fault, files_of, run_over};
 use std::alloc::Global;
 
 // The inputs of docs/CODES.md, as they stand there: the words, then each file, its name behind `+` and then its lines, and at the end
@@ -391,30 +390,6 @@ a
     ),
 ];
 
-// The bytes of a text, each `<FF>` as the byte FF.
-fn bytes_of(alloc: Global, text: &str) -> Option<Vec<u8>> {
-    let mut bytes = Vec::new(alloc);
-    for (place, part) in text.split("<FF>").enumerate() {
-        if place > 0 {
-            bytes.push(255).ok()?;
-        }
-        bytes.extend_from_slice(part.as_bytes()).ok()?;
-    }
-    Some(bytes)
-}
-
-// The files of an input, which end before a line `~`, if there is one.
-fn files_of(alloc: Global, text: &str) -> Option<FileList> {
-    let mut list = FileList::new(alloc);
-    let (files, _) = text.split_once("~ ").unwrap_or((text, ""));
-    for file in files.split("+ ") {
-        if let Some((name, content)) = file.split_once('\n') {
-            add_file(alloc, &mut list, name, bytes_of(alloc, content)?.as_slice())?;
-        }
-    }
-    Some(list)
-}
-
 // The status of a run and its line, as an input tells them.
 fn ending_of(alloc: Global, ended: &Ended) -> Option<Vec<u8>> {
     let number = format!(in alloc; "{}", ended.number).ok()?;
@@ -428,9 +403,10 @@ fn ending_of(alloc: Global, ended: &Ended) -> Option<Vec<u8>> {
     Some(ending)
 }
 
-// Whether an input ends as its last line says, where this call fails.
+// Whether an input ends as its last line says, where this call fails. Its files end before a line `~`, if there is one.
 fn ends(alloc: Global, input: &str, fault: Fault) -> Option<bool> {
     let (before, wanted) = input.split_once("! ")?;
+    let (before, _) = before.split_once("~ ").unwrap_or((before, ""));
     let (line, files) = before.split_once('\n')?;
     let line = line.strip_prefix("dbrdf ")?;
     let ended = run_over(alloc, line, files_of(alloc, files)?, fault)?;

@@ -14,14 +14,25 @@ pub fn add_file(alloc: Global, list: &mut FileList, name: &str, bytes: &[u8]) ->
     pushed.ok()
 }
 
-/// The files that are told as text, each its name behind `+ ` and then its lines. None where two have one name, or for want of
-/// memory.
+// The bytes of a text, each `<FF>` as the byte FF.
+fn bytes_of(alloc: Global, text: &str) -> Option<Vec<u8>> {
+    let mut bytes = Vec::new(alloc);
+    for (place, part) in text.split("<FF>").enumerate() {
+        if place > 0 {
+            bytes.push(255).ok()?;
+        }
+        bytes.extend_from_slice(part.as_bytes()).ok()?;
+    }
+    Some(bytes)
+}
+
+/// The files that are told as text, each its name behind `+ ` and then its lines, in which `<FF>` stands for the one byte FF. None
+/// where two have one name, or for want of memory.
 pub fn files_of(alloc: Global, files: &str) -> Option<FileList> {
     let mut list = FileList::new(alloc);
     for file in files.split("+ ") {
-        match file.split_once('\n') {
-            Some((name, content)) => add_file(alloc, &mut list, name, content.as_bytes())?,
-            None => {}
+        if let Some((name, content)) = file.split_once('\n') {
+            add_file(alloc, &mut list, name, bytes_of(alloc, content)?.as_slice())?;
         }
     }
     Some(list)

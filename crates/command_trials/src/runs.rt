@@ -72,18 +72,6 @@ pub fn words_of(alloc: Global, line: &str) -> Option<Vec<String>> {
     Some(words)
 }
 
-// The number of the status of a run over these devices.
-fn number_of<S: Shelf, K: Sink, D: Sink>(
-    alloc: Global,
-    line: &str,
-    shelf: &mut S,
-    out: &mut K,
-    diag: &mut D,
-) -> Option<u8> {
-    let words = words_of(alloc, line)?;
-    Some(run(alloc, &words, shelf, out, diag).number())
-}
-
 fn make_ended(alloc: Global, number: u8, output: &[u8], line: &[u8]) -> Option<Ended> {
     Some(Ended {
         number,
@@ -92,27 +80,50 @@ fn make_ended(alloc: Global, number: u8, output: &[u8], line: &[u8]) -> Option<E
     })
 }
 
-/// Runs the words of a command line, parted by spaces, over this shelf, and over sinks in memory of which this put fails. None for
-/// want of memory.
-pub fn run_on(alloc: Global, line: &str, shelf: &mut MemoryShelf, fault: Fault) -> Option<Ended> {
+// The number of the status of a run over these devices.
+fn number_of<S: Shelf, K: Sink, D: Sink>(
+    alloc: Global,
+    words: &[String],
+    shelf: &mut S,
+    out: &mut K,
+    diag: &mut D,
+) -> u8 {
+    run(alloc, words, shelf, out, diag).number()
+}
+
+/// Runs the words over this shelf, and over sinks in memory of which this put fails. None for want of memory.
+pub fn run_words(
+    alloc: Global,
+    words: &[String],
+    shelf: &mut MemoryShelf,
+    fault: Fault,
+) -> Option<Ended> {
     let mut out = output_sink(alloc, fault)?;
     let mut diag = line_sink(alloc, fault)?;
-    let number = number_of(alloc, line, shelf, &mut out, &mut diag)?;
+    let number = number_of(alloc, words, shelf, &mut out, &mut diag);
     make_ended(alloc, number, out.bytes(), diag.bytes())
 }
 
-/// Runs the words over a shelf in memory and sinks, of which this call fails. None for want of memory.
+/// Runs the words of a command line, parted by spaces, over this shelf, and over sinks in memory of which this put fails. None for
+/// want of memory.
+pub fn run_on(alloc: Global, line: &str, shelf: &mut MemoryShelf, fault: Fault) -> Option<Ended> {
+    let words = words_of(alloc, line)?;
+    run_words(alloc, &words, shelf, fault)
+}
+
+/// Runs the words of a command line over a shelf in memory and sinks, of which this call fails. None for want of memory.
 pub fn run_over(alloc: Global, line: &str, files: FileList, fault: Fault) -> Option<Ended> {
     let mut shelf = shelf_of(alloc, files, fault)?;
     run_on(alloc, line, &mut shelf, fault)
 }
 
-/// Runs the words over devices that never fail. None for want of memory.
+/// Runs the words of a command line over devices that never fail. None for want of memory.
 pub fn run_without_faults(alloc: Global, line: &str, files: FileList) -> Option<Ended> {
+    let words = words_of(alloc, line)?;
     let mut shelf = NoFaultShelf::new(files);
     let mut out = NoFaultSink::new(alloc);
     let mut diag = NoFaultSink::new(alloc);
-    let number = number_of(alloc, line, &mut shelf, &mut out, &mut diag)?;
+    let number = number_of(alloc, &words, &mut shelf, &mut out, &mut diag);
     make_ended(alloc, number, out.bytes(), diag.bytes())
 }
 

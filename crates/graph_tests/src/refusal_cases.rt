@@ -290,3 +290,27 @@ x
 ! dbrdf: usage
 ",
 ];
+
+// Schemas and files of a table with bytes that are no text. `<FF>` stands for the one byte FF.
+pub const NO_TEXTS: [&str; 3] = [
+    "check d
++ d/schema.sql
+<FF>+ d/T.csv
+= 1
+! dbrdf: refused 15 NotUtf8 place 1
+",
+    "check d
++ d/schema.sql
+CREATE TABLE T (a TEXT, b INT NOT NULL);+ d/T.csv
+a,b
+<FF>,1
+= 1
+! dbrdf: refused 22 TextNotUtf8 table 1 place 2 column 1
+",
+    "check d
++ d/schema.sql
+CREATE TABLE T (a INT+ d/T.csv
+= 1
+! dbrdf: refused 17 Unexpected place 22
+",
+];

@@ -1,6 +1,6 @@
 use crate::graph_cases::{DIRECT, MAP, MAP_KEYS, PEOPLE};
 use crate::line_cases::{CHECKED, JUDGED, MAP_KEYS_VERDICTS, SHOW_REFUSALS, SHOWN};
-use crate::refusal_cases::{GRAPH_REFUSALS, REFUSALS};
+use crate::refusal_cases::{GRAPH_REFUSALS, NO_TEXTS, REFUSALS};
 use cmd_dm::{Command, Status, fault_text, read_words};
 use command_trials::{
     Ended, Fault, add_file, ends_as_told, ends_so, ends_without_faults, files_of, files_with,
@@ -121,6 +121,12 @@ fn refuses(rt: HostRuntime) {
     assert!(rt; wrong.len() == 0, "{wrong}");
 }
 
+#[test]
+fn refuses_bytes_that_are_no_text(rt: HostRuntime) {
+    let wrong = first_wrong(rt.alloc(), &NO_TEXTS);
+    assert!(rt; wrong.len() == 0, "{wrong}");
+}
+
 // Whether `check` over this schema and the file of its table `T` ends so.
 fn is_checked(alloc: Global, schema: &[u8], table: &[u8], ending: &str) -> bool {
     let Some(mut files) = files_with(alloc, "", "d/schema.sql", schema) else {
@@ -129,29 +135,6 @@ fn is_checked(alloc: Global, schema: &[u8], table: &[u8], ending: &str) -> bool 
     match add_file(alloc, &mut files, "d/T.csv", table) {
         Some(()) => ends_so(alloc, "check d", files, Fault::Nowhere, ending, ""),
         None => false,
-    }
-}
-
-// Schemas and files of a table with bytes that are no text, and how `check` ends.
-const NO_TEXTS: [(&[u8], &[u8], &str); 3] = [
-    (b"\xFF", b"", "1\n! dbrdf: refused 15 NotUtf8 place 1\n"),
-    (
-        b"CREATE TABLE T (a TEXT, b INT NOT NULL);",
-        b"a,b\n\xFF,1\n",
-        "1\n! dbrdf: refused 22 TextNotUtf8 table 1 place 2 column 1\n",
-    ),
-    (
-        b"CREATE TABLE T (a INT",
-        b"",
-        "1\n! dbrdf: refused 17 Unexpected place 22\n",
-    ),
-];
-
-#[test]
-fn refuses_bytes_that_are_no_text(rt: HostRuntime) {
-    for (schema, table, ending) in NO_TEXTS {
-        let found = is_checked(rt.alloc(), schema, table, ending);
-        assert!(rt; found, "{ending}");
     }
 }
 

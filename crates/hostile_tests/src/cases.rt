@@ -1,0 +1,325 @@
+//! The files, texts and tables of the tests. In the graphs `~` stands for `http://foo.example/DB/`, and prefixes for the namespaces;
+//! in a file `<FF>` stands for the one byte FF.
+
+use command_trials::Fault;
+
+/// A folder `d`, a folder `f` with a schema that is refused, the queries `people` and `names`, and the file `g` with the map graph of
+/// `d`.
+pub const FILES: &str = "+ d/schema.sql
+CREATE TABLE Addresses (ID INT PRIMARY KEY, city CHAR(10), state CHAR(2)); CREATE TABLE People (ID INT PRIMARY KEY, fname CHAR(10), addr INT, FOREIGN KEY (addr) REFERENCES Addresses(ID));
++ d/Addresses.csv
+ID,city,state
+18,Cambridge,MA
++ d/People.csv
+ID,fname,addr
+7,Bob,18
+8,Sue,\\N
++ f/schema.sql
+CREATE TABLE T (a FLOAT);
++ people
+(table People)
++ names
+(union (project (table People) fname) (rename (null x) x fname))
+";
+
+/// The map graph of `d`.
+pub const MAP: &str = "<~Addresses> <rdf:type> <owl:Class> .
+<~Addresses#ID> <rdf:type> <owl:DatatypeProperty> .
+<~Addresses#ID> <rdfs:domain> <~Addresses> .
+<~Addresses#ID> <rdfs:range> <xsd:integer> .
+<~Addresses#city> <rdf:type> <owl:DatatypeProperty> .
+<~Addresses#city> <rdfs:domain> <~Addresses> .
+<~Addresses#city> <rdfs:range> <xsd:string> .
+<~Addresses#state> <rdf:type> <owl:DatatypeProperty> .
+<~Addresses#state> <rdfs:domain> <~Addresses> .
+<~Addresses#state> <rdfs:range> <xsd:string> .
+<~People> <rdf:type> <owl:Class> .
+<~People#ID> <rdf:type> <owl:DatatypeProperty> .
+<~People#ID> <rdfs:domain> <~People> .
+<~People#ID> <rdfs:range> <xsd:integer> .
+<~People#fname> <rdf:type> <owl:DatatypeProperty> .
+<~People#fname> <rdfs:domain> <~People> .
+<~People#fname> <rdfs:range> <xsd:string> .
+<~People#addr> <rdf:type> <owl:DatatypeProperty> .
+<~People#addr> <rdfs:domain> <~People> .
+<~People#addr> <rdfs:range> <xsd:integer> .
+<~People#ref-addr> <rdf:type> <owl:ObjectProperty> .
+<~People#ref-addr> <rdfs:domain> <~People> .
+<~People#ref-addr> <rdfs:range> <~Addresses> .
+<~Addresses/ID=18> <rdf:type> <~Addresses> .
+<~Addresses/ID=18> <~Addresses#ID> \"18\"^^<xsd:integer> .
+<~Addresses/ID=18> <~Addresses#city> \"Cambridge\" .
+<~Addresses/ID=18> <~Addresses#state> \"MA\" .
+<~People/ID=7> <rdf:type> <~People> .
+<~People/ID=7> <~People#ID> \"7\"^^<xsd:integer> .
+<~People/ID=7> <~People#fname> \"Bob\" .
+<~People/ID=7> <~People#addr> \"18\"^^<xsd:integer> .
+<~People/ID=7> <~People#ref-addr> <~Addresses/ID=18> .
+<~People/ID=8> <rdf:type> <~People> .
+<~People/ID=8> <~People#ID> \"8\"^^<xsd:integer> .
+<~People/ID=8> <~People#fname> \"Sue\" .
+";
+
+/// The direct graph of `d`.
+pub const DIRECT: &str = "<~Addresses/ID=18> <rdf:type> <~Addresses> .
+<~Addresses/ID=18> <~Addresses#ID> \"18\"^^<xsd:integer> .
+<~Addresses/ID=18> <~Addresses#city> \"Cambridge\" .
+<~Addresses/ID=18> <~Addresses#state> \"MA\" .
+<~People/ID=7> <rdf:type> <~People> .
+<~People/ID=7> <~People#ID> \"7\"^^<xsd:integer> .
+<~People/ID=7> <~People#fname> \"Bob\" .
+<~People/ID=7> <~People#addr> \"18\"^^<xsd:integer> .
+<~People/ID=7> <~People#ref-addr> <~Addresses/ID=18> .
+<~People/ID=8> <rdf:type> <~People> .
+<~People/ID=8> <~People#ID> \"8\"^^<xsd:integer> .
+<~People/ID=8> <~People#fname> \"Sue\" .
+";
+
+/// None of the files that `invert` stores.
+pub const NOTHING: &str = "@ o/schema.sql
+-
+@ o/Addresses.csv
+-
+@ o/People.csv
+-
+";
+
+const ONE_FILE: &str = "@ o/schema.sql
+CREATE TABLE \"Addresses\" (\"ID\" INTEGER, \"city\" TEXT, \"state\" TEXT);
+CREATE TABLE \"People\" (\"ID\" INTEGER, \"addr\" INTEGER, \"fname\" TEXT);
+@ o/Addresses.csv
+-
+@ o/People.csv
+-
+";
+
+const TWO_FILES: &str = "@ o/schema.sql
+CREATE TABLE \"Addresses\" (\"ID\" INTEGER, \"city\" TEXT, \"state\" TEXT);
+CREATE TABLE \"People\" (\"ID\" INTEGER, \"addr\" INTEGER, \"fname\" TEXT);
+@ o/Addresses.csv
+ID,city,state
+18,Cambridge,MA
+@ o/People.csv
+-
+";
+
+const INVERT: &str = "invert http://foo.example/DB/ g o";
+
+const ASK: &str = "ask map http://foo.example/DB/ d g people";
+
+/// The words, the call that fails, how the run ends, and the files that stand then.
+pub const FAULTS: [(&str, Fault, &str, &str); 12] = [
+    (
+        "map http://foo.example/DB/ d",
+        Fault::Load(1),
+        "4\n! dbrdf: read fault schema\n",
+        NOTHING,
+    ),
+    (
+        "map http://foo.example/DB/ d",
+        Fault::Load(2),
+        "4\n! dbrdf: read fault table 1\n",
+        NOTHING,
+    ),
+    (
+        "map http://foo.example/DB/ d",
+        Fault::Load(3),
+        "4\n! dbrdf: read fault table 2\n",
+        NOTHING,
+    ),
+    (
+        "rows d names",
+        Fault::Load(4),
+        "4\n! dbrdf: read fault query\n",
+        NOTHING,
+    ),
+    (
+        ASK,
+        Fault::Load(1),
+        "4\n! dbrdf: read fault schema\n",
+        NOTHING,
+    ),
+    (
+        ASK,
+        Fault::Load(2),
+        "4\n! dbrdf: read fault query\n",
+        NOTHING,
+    ),
+    (
+        ASK,
+        Fault::Load(3),
+        "4\n! dbrdf: read fault graph\n",
+        NOTHING,
+    ),
+    (
+        INVERT,
+        Fault::Load(1),
+        "4\n! dbrdf: read fault graph\n",
+        NOTHING,
+    ),
+    (
+        INVERT,
+        Fault::Store(1),
+        "5\n! dbrdf: write fault\n",
+        NOTHING,
+    ),
+    (
+        INVERT,
+        Fault::Store(2),
+        "5\n! dbrdf: write fault\n",
+        ONE_FILE,
+    ),
+    (
+        INVERT,
+        Fault::Store(3),
+        "5\n! dbrdf: write fault\n",
+        TWO_FILES,
+    ),
+    (
+        "direct http://foo.example/DB/ f",
+        Fault::Line(1),
+        "1\n",
+        NOTHING,
+    ),
+];
+
+/// The words, parted by bars; the files; the number of the status; and the line.
+pub const DAMAGED: [(&str, &str, u8, &str); 17] = [
+    (
+        "check|d",
+        "+ d/schema.sql
+<FF>",
+        1,
+        "dbrdf: refused 15 NotUtf8 place 1\n",
+    ),
+    (
+        "check|d",
+        "+ d/schema.sql
+/* x",
+        1,
+        "dbrdf: refused 16 BadToken place 1\n",
+    ),
+    (
+        "check|d",
+        "+ d/schema.sql
+CREATE TABLE \"T",
+        1,
+        "dbrdf: refused 16 BadToken place 14\n",
+    ),
+    (
+        "check|d",
+        "+ d/schema.sql
+CREATE TABLE T (a TEXT); CREATE TABLE T (a TEXT);",
+        1,
+        "dbrdf: refused 4 DuplicateTable table 2\n",
+    ),
+    (
+        "check|d",
+        "+ d/schema.sql
+CREATE TABLE T (a TEXT, b INT NOT NULL);
++ d/T.csv
+",
+        1,
+        "dbrdf: refused 19 NoHeader table 1\n",
+    ),
+    (
+        "check|d",
+        "+ d/schema.sql
+CREATE TABLE T (a TEXT, b INT NOT NULL);
++ d/T.csv
+a,c
+",
+        1,
+        "dbrdf: refused 20 BadHeader table 1 column 2\n",
+    ),
+    (
+        "check|d",
+        "+ d/schema.sql
+CREATE TABLE T (a TEXT, b INT NOT NULL);
++ d/T.csv
+a
+",
+        1,
+        "dbrdf: refused 20 BadHeader table 1 column 2\n",
+    ),
+    (
+        "check|d",
+        "+ d/schema.sql
+CREATE TABLE T (a TEXT, b INT NOT NULL);
++ d/T.csv
+a,b
+x
+",
+        1,
+        "dbrdf: refused 21 FieldCount table 1 place 2\n",
+    ),
+    (
+        "check|d",
+        "+ d/schema.sql
+CREATE TABLE T (a TEXT, b INT NOT NULL);
++ d/T.csv
+a,b
+<FF>,1
+",
+        1,
+        "dbrdf: refused 22 TextNotUtf8 table 1 place 2 column 1\n",
+    ),
+    (
+        "check|d",
+        "+ d/schema.sql
+CREATE TABLE T (a TEXT, b INT NOT NULL);
++ d/T.csv
+a,b
+x,y
+",
+        1,
+        "dbrdf: refused 23 BadValue table 1 place 2 column 2\n",
+    ),
+    (
+        "check|d",
+        "+ d/schema.sql
+CREATE TABLE T (a TEXT, b INT NOT NULL);
++ d/T.csv
+a,b
+x,
+",
+        1,
+        "dbrdf: refused 24 NullRefused table 1 place 2 column 2\n",
+    ),
+    ("direct||d", "", 1, "dbrdf: refused 26 BadBase\n"),
+    ("direct|http://|d", "", 1, "dbrdf: refused 26 BadBase\n"),
+    ("direct|http://a b/|d", "", 1, "dbrdf: refused 26 BadBase\n"),
+    (
+        "show|g",
+        "+ g
+<http://a/\\u0020> <http://a/p> \"x\" .
+",
+        1,
+        "dbrdf: refused 28 BadLine place 1\n",
+    ),
+    (
+        "rows|d|q",
+        "+ d/schema.sql
+CREATE TABLE T (a INT);
++ d/T.csv
+a
++ q
+<FF>",
+        1,
+        "dbrdf: refused 34 BadQuery place 1\n",
+    ),
+    (
+        "rows|d|q",
+        "+ d/schema.sql
+CREATE TABLE T (a INT);
++ d/T.csv
+a
++ q
+(table",
+        1,
+        "dbrdf: refused 34 BadQuery place 7\n",
+    ),
+];
+
+/// Words that are no command.
+pub const NO_COMMANDS: [&str; 4] = ["direct", "bench 0", "bench 01", "bench 50001"];

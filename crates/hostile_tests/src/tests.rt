@@ -1,0 +1,169 @@
+use crate::cases::{DAMAGED, DIRECT, FAULTS, FILES, MAP, NO_COMMANDS, NOTHING};
+use command_trials::{
+    Ended, Fault, ends_so, files_of, files_with, has_files, run_on, run_over, run_words, shelf_of,
+    whole_iris,
+};
+use outside_dm::FileList;
+use std::alloc::Global;
+
+// The files with the graph.
+fn all_files(alloc: Global) -> Option<FileList> {
+    let graph = whole_iris(alloc, MAP)?;
+    files_with(alloc, FILES, "g", graph.as_bytes())
+}
+
+fn fails_so(alloc: Global, line: &str, fault: Fault, ending: &str, stored: &str) -> bool {
+    match all_files(alloc) {
+        Some(files) => ends_so(alloc, line, files, fault, ending, stored),
+        None => false,
+    }
+}
+
+fn direct(alloc: Global, put: u64) -> Option<Ended> {
+    run_over(
+        alloc,
+        "direct http://foo.example/DB/ d",
+        all_files(alloc)?,
+        Fault::Put(put),
+    )
+}
+
+// Whether a run of which a put failed ended with a prefix of the text.
+fn has_prefix(ended: &Ended, whole: &[u8]) -> bool {
+    ended.number == 5
+        && whole.starts_with(ended.output.as_slice())
+        && ended.line.as_slice() == b"dbrdf: write fault\n".as_slice()
+}
+
+// Whether each run ends so of which the put with the next number fails, until one ends well with the whole text.
+fn fails_at_each_put(alloc: Global, whole: &[u8]) -> bool {
+    for put in 1..10_000 {
+        let Some(ended) = direct(alloc, put) else {
+            return false;
+        };
+        if ended.number == 0 {
+            return put > 1 && ended.output.as_slice() == whole;
+        }
+        if !has_prefix(&ended, whole) {
+            return false;
+        }
+    }
+    false
+}
+
+fn is_direct_cut_off(alloc: Global) -> bool {
+    match whole_iris(alloc, DIRECT) {
+        Some(whole) => fails_at_each_put(alloc, whole.as_bytes()),
+        None => false,
+    }
+}
+
+#[test]
+fn devices_that_fail(rt: HostRuntime) {
+    for (line, fault, ending, stored) in FAULTS {
+        let found = fails_so(rt.alloc(), line, fault, ending, stored);
+        assert!(rt; found, "{line}: {ending}");
+    }
+    let found = is_direct_cut_off(rt.alloc());
+    assert!(rt; found);
+}
+
+// The words that bars part, of which one may be empty or have a space in it.
+fn words_between_bars(alloc: Global, line: &str) -> Option<Vec<String>> {
+    let mut words = Vec::new(alloc);
+    for word in line.split('|') {
+        words.push(String::from_str(alloc, word).ok()?).ok()?;
+    }
+    Some(words)
+}
+
+fn run_damaged(alloc: Global, line: &str, files: &str) -> Option<Ended> {
+    let words = words_between_bars(alloc, line)?;
+    let mut shelf = shelf_of(alloc, files_of(alloc, files)?, Fault::Nowhere)?;
+    run_words(alloc, &words, &mut shelf, Fault::Nowhere)
+}
+
+// Whether a run writes nothing but this line.
+fn tells(ended: Option<Ended>, number: u8, line: &str) -> bool {
+    match ended {
+        Some(ended) => {
+            ended.number == number
+                && ended.output.len() == 0
+                && ended.line.as_slice() == line.as_bytes()
+        }
+        None => false,
+    }
+}
+
+#[test]
+fn damaged_files(rt: HostRuntime) {
+    for (words, files, number, line) in DAMAGED {
+        let found = tells(run_damaged(rt.alloc(), words, files), number, line);
+        assert!(rt; found, "{files}{line}");
+    }
+}
+
+fn is_no_command(alloc: Global, line: &str) -> bool {
+    match files_of(alloc, FILES) {
+        Some(files) => tells(
+            run_over(alloc, line, files, Fault::Nowhere),
+            2,
+            "dbrdf: usage\n",
+        ),
+        None => false,
+    }
+}
+
+#[test]
+fn words_that_are_no_command(rt: HostRuntime) {
+    for line in NO_COMMANDS {
+        let found = is_no_command(rt.alloc(), line);
+        assert!(rt; found, "{line}");
+    }
+}
+
+// Whether the line names one of the causes that a graph that is cut off may be refused for.
+fn is_cause_of_a_cut(line: &[u8]) -> bool {
+    line.starts_with(b"dbrdf: refused 28 BadLine ")
+        || line.starts_with(b"dbrdf: refused 30 Unexplained ")
+        || line.starts_with(b"dbrdf: refused 44 NoTables")
+}
+
+// Whether `invert` stores tables of these first bytes of a graph, or refuses them and stores nothing.
+fn is_cut_judged(alloc: Global, front: &[u8]) -> Option<bool> {
+    let mut shelf = shelf_of(alloc, files_with(alloc, "", "g", front)?, Fault::Nowhere)?;
+    let ended = run_on(
+        alloc,
+        "invert http://foo.example/DB/ g o",
+        &mut shelf,
+        Fault::Nowhere,
+    )?;
+    Some(match ended.number {
+        0 => true,
+        1 => is_cause_of_a_cut(ended.line.as_slice()) && has_files(&shelf, NOTHING),
+        _ => false,
+    })
+}
+
+// The first place at which the graph, cut off there, is judged otherwise, or None where there is no such place.
+fn first_misjudged(alloc: Global, graph: &[u8]) -> Option<usize> {
+    for place in 0..graph.len() {
+        if !is_cut_judged(alloc, &graph[..place]).unwrap_or(false) {
+            return Some(place);
+        }
+    }
+    None
+}
+
+fn are_cuts_judged(alloc: Global) -> bool {
+    match whole_iris(alloc, MAP) {
+        Some(graph) => first_misjudged(alloc, graph.as_bytes()).is_none(),
+        None => false,
+    }
+}
+
+#[test]
+fn graphs_that_are_cut_off(rt: HostRuntime) {
+    let found = are_cuts_judged(rt.alloc());
+    assert!(rt; found);
+}
