@@ -11,6 +11,7 @@ mod parsed;
 mod patterns;
 mod query;
 mod reader;
+mod selection;
 mod targets;
 
 pub use error::SparqlError;
