@@ -238,16 +238,22 @@ module _ (part : Part Placed Pattern) (read : Read Pattern) (reads : (ts : List 
   operator_reads p ts =
       or_by (is_word Union) (united p) (or (lessened p) (or (left_join part p) (or (kept p) (joined p)))) no ts (union_at read p ts) _
       (λ e. (union_reads p ts, lessened_apart p ts (word_lacks Union Minus refl ts e) (word_lacks Union Optional refl ts e) (word_lacks Union Filter refl ts e) (no_brace Union ts e)))
-      (λ u. (token_then_blocked _ _ no ts u,
-      or_by (is_word Minus) (lessened p) (or (left_join part p) (or (kept p) (joined p))) no ts (minus_at read p ts) _
-      (λ e. (minus_reads p ts, joining_apart p ts (word_lacks Minus Optional refl ts e) (word_lacks Minus Filter refl ts e) (no_brace Minus ts e)))
-      (λ m. (token_then_blocked _ _ no ts m,
-      or_by (is_word Optional) (left_join part p) (or (kept p) (joined p)) no ts (left_join_at read p ts) _
-      (λ e. (left_join_reads p ts, kept_apart p ts (word_lacks Optional Filter refl ts e) (no_brace Optional ts e)))
-      (λ o. (left_join_apart part p ts o,
-      or_by (is_word Filter) (kept p) (joined p) no ts (filtered_at p ts) (and_pattern_at read p ts)
-      (λ e. (filtered_reads p ts, joined_apart p ts (no_brace Filter ts e)))
-      (λ f. (then_blocked (filter condition) _ no ts (filter_apart condition no ts f), and_reads p ts))))))))
+      (λ u. (
+        token_then_blocked _ _ no ts u,
+        or_by (is_word Minus) (lessened p) (or (left_join part p) (or (kept p) (joined p))) no ts (minus_at read p ts) _
+            (λ e. (minus_reads p ts, joining_apart p ts (word_lacks Minus Optional refl ts e) (word_lacks Minus Filter refl ts e) (no_brace Minus ts e)))
+            (λ m. (
+              token_then_blocked _ _ no ts m,
+              or_by (is_word Optional) (left_join part p) (or (kept p) (joined p)) no ts (left_join_at read p ts) _
+                  (λ e. (left_join_reads p ts, kept_apart p ts (word_lacks Optional Filter refl ts e) (no_brace Optional ts e)))
+                  (λ o. (
+                    left_join_apart part p ts o,
+                    or_by (is_word Filter) (kept p) (joined p) no ts (filtered_at p ts) (and_pattern_at read p ts)
+                        (λ e. (filtered_reads p ts, joined_apart p ts (no_brace Filter ts e)))
+                        (λ f. (then_blocked (filter condition) _ no ts (filter_apart condition no ts f), and_reads p ts)),
+                  )),
+            )),
+      ))
 
   operation_reads : (ts : List Placed) → Reads (then part (λ p. operator part p)) no ts (operation_at read ts)
   unfolding operation_at
@@ -279,17 +285,25 @@ module _ (part : Part Placed Pattern) (read : Read Pattern) (reads : (ts : List 
   unfolding content content_at
   content_reads ts =
       or_by is_operand triple (or (select part) (or operations (give patterns.Empty))) begins_content ts (triple_at ts) _
-      (λ e. (closed_reads triple begins_content ts _ (triple_reads ts),
-      or_apart (select part) (or operations (give patterns.Empty)) begins_content ts ts (select_apart part begins_content ts (parted is_operand (is_word Select) (operand_word Select) ts e))
-      (or_apart operations (give patterns.Empty) begins_content ts ts (operations_apart ts (parted is_operand (is_sign OpenBrace) (operand_sign OpenBrace) ts e)) (empty_apart ts (first_content ts e)))))
-      (λ n. (triple_apart begins_content ts n,
-      or_by (is_word Select) (select part) (or operations (give patterns.Empty)) begins_content ts (select_at read ts) _
-      (λ e. (closed_reads (select part) begins_content ts _ (select_reads ts),
-      or_apart operations (give patterns.Empty) begins_content ts ts (operations_apart ts (no_brace Select ts e)) (empty_apart ts (second_content ts e))))
-      (λ s. (select_apart part begins_content ts s,
-      or_by (is_sign OpenBrace) operations (give patterns.Empty) begins_content ts (operation_at read ts) _
-      (λ e. (closed_reads operations begins_content ts _ (operation_reads ts), empty_apart ts (third_content ts e)))
-      (λ b. (operations_apart ts b, give_reads patterns.Empty begins_content ts))))))
+      (λ e. (
+        closed_reads triple begins_content ts _ (triple_reads ts),
+        or_apart (select part) (or operations (give patterns.Empty)) begins_content ts ts (select_apart part begins_content ts (parted is_operand (is_word Select) (operand_word Select) ts e))
+            (or_apart operations (give patterns.Empty) begins_content ts ts (operations_apart ts (parted is_operand (is_sign OpenBrace) (operand_sign OpenBrace) ts e)) (empty_apart ts (first_content ts e))),
+      ))
+      (λ n. (
+        triple_apart begins_content ts n,
+        or_by (is_word Select) (select part) (or operations (give patterns.Empty)) begins_content ts (select_at read ts) _
+            (λ e. (
+              closed_reads (select part) begins_content ts _ (select_reads ts),
+              or_apart operations (give patterns.Empty) begins_content ts ts (operations_apart ts (no_brace Select ts e)) (empty_apart ts (second_content ts e)),
+            ))
+            (λ s. (
+              select_apart part begins_content ts s,
+              or_by (is_sign OpenBrace) operations (give patterns.Empty) begins_content ts (operation_at read ts) _
+                  (λ e. (closed_reads operations begins_content ts _ (operation_reads ts), empty_apart ts (third_content ts e)))
+                  (λ b. (operations_apart ts b, give_reads patterns.Empty begins_content ts)),
+            )),
+      ))
 
   no_close : (t : Placed) → begins_content t ≡ true → is_sign CloseBrace t ≡ false
   no_close t e = either is_operand (λ u. is_word Select u || is_sign OpenBrace u) t e (operand_sign CloseBrace t) (λ h. either (is_word Select) (is_sign OpenBrace) t h (word_sign Select CloseBrace t) (signs OpenBrace CloseBrace refl t))

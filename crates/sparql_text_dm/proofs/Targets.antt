@@ -38,7 +38,6 @@ more_same n m taken ts (Ok x) e ln lm =
 both_same : (n m : ℕ) (taken : List Rename) (ts : List Placed) (b : Bool) → length ts < suc n → length ts < suc m → step_by n taken ts b ≡ step_by m taken ts b
 both_same n m taken ts true ln lm = more_same n m taken ts (target_at taken ts) refl ln lm
 both_same n m taken ts false ln lm = refl
-
 fuel_same zero m taken ts ln lm = absurd (omega (arith, ln))
 fuel_same (suc n) zero taken ts ln lm = absurd (omega (arith, lm))
 fuel_same (suc n) (suc m) taken ts ln lm = step_is n taken ts ∙ both_same n m taken ts (starts begins_target ts) ln lm ∙ sym (step_is m taken ts)

@@ -7,6 +7,7 @@ mod connective;
 mod depth;
 mod error;
 mod makers;
+mod pairing;
 mod parsed;
 mod patterns;
 mod query;

@@ -4,7 +4,9 @@ ghost use Rattle.grammar_dm.specs.Exits.{Gives};
 ghost use Rattle.sparql_text_dm.specs.Reading.{all_targets_at, begins_target, new_name_at, other_name_at, other_target_at, same_target_at, target_at};
 ghost use Rattle.sparql_text_dm.specs.Words.{named, new_name_of, other_name_of};
 
-use crate::reader::{Read, has_sign, has_variable, sign, starts_with_sign, variable, variable_of, word};
+use crate::reader::{
+    Read, has_sign, has_variable, sign, starts_with_sign, variable, variable_of, word,
+};
 use crate::selection::Selection;
 use grammar_dm::ReadError;
 use names_dm::Var;
