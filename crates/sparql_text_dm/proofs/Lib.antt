@@ -3,6 +3,8 @@ pub mod ConditionReaders
 pub mod PatternReaders
 pub mod Depths
 pub mod Exits
+pub mod Following
+pub mod NewNames
 pub mod Loops
 pub mod Targets
 pub mod Telling
