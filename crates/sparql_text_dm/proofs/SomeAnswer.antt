@@ -11,7 +11,7 @@ use Rattle.sparql_text_dm.specs.declared.answer.End.TheVariants as end
 use Rattle.sparql_text_dm.specs.declared.error.SparqlError.{SparqlError}
 use Rattle.sparql_text_dm.specs.declared.error.SparqlError.TheVariants.{Memory}
 use Rattle.sparql_text_dm.specs.declared.parsed.Parsed.{Parsed}
-use Rattle.sparql_text_dm.specs.Answer.{IsAnswer}
+use Rattle.sparql_text_dm.specs.Answer.{HasSomeAnswer}
 use Rattle.sparql_text_dm.specs.Depth.{IsCut, opens, past}
 use Rattle.sparql_text_dm.specs.Grammar.{Query, query}
 use Rattle.sparql_text_dm.specs.Reading.{query_at}
@@ -77,7 +77,7 @@ told_by kept e (Err fault) j = record { answer = Err (fault_told fault.rest e); 
 told_of : (kept : List Placed) (e : End) → Told kept e
 told_of kept e = told_by kept e (all_of (query_at kept)) (judges query no kept (query_at kept) (query_read kept))
 
-pub some_answer : (bytes : List ℕ) → ¬ ((answer : Result Parsed SparqlError) → answer ≢ Err Memory → ¬ IsAnswer bytes answer)
+pub some_answer : (bytes : List ℕ) → HasSomeAnswer bytes
 some_answer bytes none =
     tokens_some bytes (λ found stop are.
     let cut = cut_of found in

@@ -49,6 +49,10 @@ IsAnswer bytes (Err Memory) = Unit {0}
 abbrev pub HasOneAnswer : List ℕ → Type 0
 HasOneAnswer bytes = (first second : Result Parsed SparqlError) → first ≢ Err Memory → second ≢ Err Memory → IsAnswer bytes first → IsAnswer bytes second → first ≡ second
 
+-- there is some answer, besides want of memory, said by double negation
+abbrev pub HasSomeAnswer : List ℕ → Type 0
+HasSomeAnswer bytes = ¬ ((answer : Result Parsed SparqlError) → answer ≢ Err Memory → ¬ IsAnswer bytes answer)
+
 -- there is a header, and the pattern is well-formed
 pub record IsFormed (x : Parsed) : Type 0 where
   pub header : x.header ≢ []

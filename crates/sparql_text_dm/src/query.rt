@@ -1,5 +1,5 @@
 ghost use Rattle.std.specs.Prelude.{◌≡◌, IfOk};
-ghost use Rattle.sparql_text_dm.specs.Answer.{HasOneAnswer, IsAnswer, IsFormed};
+ghost use Rattle.sparql_text_dm.specs.Answer.{HasOneAnswer, HasSomeAnswer, IsAnswer, IsFormed};
 
 use crate::answer::read_text;
 use crate::error::SparqlError;
@@ -25,6 +25,7 @@ pub fn read_sparql(alloc: Global, bytes: &[u8]) -> Result<Parsed, SparqlError>
     ensures answer { IsAnswer bytes.now result }
     ensures formed { IfOk result IsFormed }
     ensures one { HasOneAnswer bytes.now }
+    ensures some { HasSomeAnswer bytes.now }
 {
     read_text(alloc, bytes)
 }
