@@ -48,7 +48,7 @@ fn parts_of(case: &str) -> Option<(&str, &str, &str)> {
     Some((line, files, wanted))
 }
 
-/// Whether a case ends as it tells. A case is the words; the files (`files_of`); the ending (`ends_so`) behind `= `; and the files
+/// Whether a case ends as it tells. A case is the words (`words_of`); the files (`files_of`); the ending (`ends_so`) behind `= `; and the files
 /// that stand then (`has_files`).
 pub fn ends_as_told(alloc: Global, case: &str) -> bool {
     let Some((line, files, wanted)) = parts_of(case) else {

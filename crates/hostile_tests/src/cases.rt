@@ -183,143 +183,141 @@ pub const FAULTS: [(&str, Fault, &str, &str); 12] = [
     ),
 ];
 
-/// The words, parted by bars; the files; the number of the status; and the line.
-pub const DAMAGED: [(&str, &str, u8, &str); 17] = [
-    (
-        "check|d",
-        "+ d/schema.sql
-<FF>",
-        1,
-        "dbrdf: refused 15 NotUtf8 place 1\n",
-    ),
-    (
-        "check|d",
-        "+ d/schema.sql
-/* x",
-        1,
-        "dbrdf: refused 16 BadToken place 1\n",
-    ),
-    (
-        "check|d",
-        "+ d/schema.sql
-CREATE TABLE \"T",
-        1,
-        "dbrdf: refused 16 BadToken place 14\n",
-    ),
-    (
-        "check|d",
-        "+ d/schema.sql
-CREATE TABLE T (a TEXT); CREATE TABLE T (a TEXT);",
-        1,
-        "dbrdf: refused 4 DuplicateTable table 2\n",
-    ),
-    (
-        "check|d",
-        "+ d/schema.sql
+/// Cases of damaged files, and of bases that are none.
+pub const DAMAGED: [&str; 17] = [
+    "check d
++ d/schema.sql
+<FF>= 1
+! dbrdf: refused 15 NotUtf8 place 1
+",
+    "check d
++ d/schema.sql
+/* x= 1
+! dbrdf: refused 16 BadToken place 1
+",
+    "check d
++ d/schema.sql
+CREATE TABLE \"T= 1
+! dbrdf: refused 16 BadToken place 14
+",
+    "check d
++ d/schema.sql
+CREATE TABLE T (a TEXT); CREATE TABLE T (a TEXT);= 1
+! dbrdf: refused 4 DuplicateTable table 2
+",
+    "check d
++ d/schema.sql
 CREATE TABLE T (a TEXT, b INT NOT NULL);
 + d/T.csv
+= 1
+! dbrdf: refused 19 NoHeader table 1
 ",
-        1,
-        "dbrdf: refused 19 NoHeader table 1\n",
-    ),
-    (
-        "check|d",
-        "+ d/schema.sql
+    "check d
++ d/schema.sql
 CREATE TABLE T (a TEXT, b INT NOT NULL);
 + d/T.csv
 a,c
+= 1
+! dbrdf: refused 20 BadHeader table 1 column 2
 ",
-        1,
-        "dbrdf: refused 20 BadHeader table 1 column 2\n",
-    ),
-    (
-        "check|d",
-        "+ d/schema.sql
+    "check d
++ d/schema.sql
 CREATE TABLE T (a TEXT, b INT NOT NULL);
 + d/T.csv
 a
+= 1
+! dbrdf: refused 20 BadHeader table 1 column 2
 ",
-        1,
-        "dbrdf: refused 20 BadHeader table 1 column 2\n",
-    ),
-    (
-        "check|d",
-        "+ d/schema.sql
+    "check d
++ d/schema.sql
 CREATE TABLE T (a TEXT, b INT NOT NULL);
 + d/T.csv
 a,b
 x
+= 1
+! dbrdf: refused 21 FieldCount table 1 place 2
 ",
-        1,
-        "dbrdf: refused 21 FieldCount table 1 place 2\n",
-    ),
-    (
-        "check|d",
-        "+ d/schema.sql
+    "check d
++ d/schema.sql
 CREATE TABLE T (a TEXT, b INT NOT NULL);
 + d/T.csv
 a,b
 <FF>,1
+= 1
+! dbrdf: refused 22 TextNotUtf8 table 1 place 2 column 1
 ",
-        1,
-        "dbrdf: refused 22 TextNotUtf8 table 1 place 2 column 1\n",
-    ),
-    (
-        "check|d",
-        "+ d/schema.sql
+    "check d
++ d/schema.sql
 CREATE TABLE T (a TEXT, b INT NOT NULL);
 + d/T.csv
 a,b
 x,y
+= 1
+! dbrdf: refused 23 BadValue table 1 place 2 column 2
 ",
-        1,
-        "dbrdf: refused 23 BadValue table 1 place 2 column 2\n",
-    ),
-    (
-        "check|d",
-        "+ d/schema.sql
+    "check d
++ d/schema.sql
 CREATE TABLE T (a TEXT, b INT NOT NULL);
 + d/T.csv
 a,b
 x,
+= 1
+! dbrdf: refused 24 NullRefused table 1 place 2 column 2
 ",
-        1,
-        "dbrdf: refused 24 NullRefused table 1 place 2 column 2\n",
-    ),
-    ("direct||d", "", 1, "dbrdf: refused 26 BadBase\n"),
-    ("direct|http://|d", "", 1, "dbrdf: refused 26 BadBase\n"),
-    ("direct|http://a b/|d", "", 1, "dbrdf: refused 26 BadBase\n"),
-    (
-        "show|g",
-        "+ g
+    "direct||d
+= 1
+! dbrdf: refused 26 BadBase
+",
+    "direct|http://|d
+= 1
+! dbrdf: refused 26 BadBase
+",
+    "direct|http://a b/|d
+= 1
+! dbrdf: refused 26 BadBase
+",
+    "show g
++ g
 <http://a/\\u0020> <http://a/p> \"x\" .
+= 1
+! dbrdf: refused 28 BadLine place 1
 ",
-        1,
-        "dbrdf: refused 28 BadLine place 1\n",
-    ),
-    (
-        "rows|d|q",
-        "+ d/schema.sql
+    "rows d q
++ d/schema.sql
 CREATE TABLE T (a INT);
 + d/T.csv
 a
 + q
-<FF>",
-        1,
-        "dbrdf: refused 34 BadQuery place 1\n",
-    ),
-    (
-        "rows|d|q",
-        "+ d/schema.sql
+<FF>= 1
+! dbrdf: refused 34 BadQuery place 1
+",
+    "rows d q
++ d/schema.sql
 CREATE TABLE T (a INT);
 + d/T.csv
 a
 + q
-(table",
-        1,
-        "dbrdf: refused 34 BadQuery place 7\n",
-    ),
+(table= 1
+! dbrdf: refused 34 BadQuery place 7
+",
 ];
 
-/// Words that are no command.
-pub const NO_COMMANDS: [&str; 4] = ["direct", "bench 0", "bench 01", "bench 50001"];
+/// Cases of words that are no command.
+pub const NO_COMMANDS: [&str; 4] = [
+    "direct
+= 2
+! dbrdf: usage
+",
+    "bench 0
+= 2
+! dbrdf: usage
+",
+    "bench 01
+= 2
+! dbrdf: usage
+",
+    "bench 50001
+= 2
+! dbrdf: usage
+",
+];
