@@ -29,6 +29,24 @@ pub struct Ended {
     pub line: Vec<u8>,
 }
 
+/// The call that is told as a word and a number, as `load 1`; `store`, `put`, `kept` and `line` are the others, and no text is no
+/// call. None where there is no such call.
+pub fn fault_of(text: &str) -> Option<Fault> {
+    if text.len() == 0 {
+        return Some(Fault::Nowhere);
+    }
+    let (device, number) = text.split_once(' ')?;
+    let call = number.trim_end().parse::<u64>().ok()?;
+    match device {
+        "load" => Some(Fault::Load(call)),
+        "store" => Some(Fault::Store(call)),
+        "put" => Some(Fault::Put(call)),
+        "kept" => Some(Fault::Kept(call)),
+        "line" => Some(Fault::Line(call)),
+        _ => None,
+    }
+}
+
 /// A shelf in memory of which this load or store fails. None for want of memory.
 pub fn shelf_of(alloc: Global, files: FileList, fault: Fault) -> Option<MemoryShelf> {
     let mut loads = Calls::new(alloc);

@@ -1,10 +1,6 @@
-//! The files, texts and tables of the tests. In the graphs `~` stands for `http://foo.example/DB/`, and prefixes for the namespaces;
-//! in a file `<FF>` stands for the one byte FF.
+//! The files, texts and tables of the tests. In the graphs `~` stands for `http://foo.example/DB/`, and prefixes for the namespaces.
 
-use command_trials::Fault;
-
-/// A folder `d`, a folder `f` with a schema that is refused, the queries `people` and `names`, and the file `g` with the map graph of
-/// `d`.
+/// A folder `d`, a folder `f` with a schema that is refused, and the queries `people` and `names`.
 pub const FILES: &str = "+ d/schema.sql
 CREATE TABLE Addresses (ID INT PRIMARY KEY, city CHAR(10), state CHAR(2)); CREATE TABLE People (ID INT PRIMARY KEY, fname CHAR(10), addr INT, FOREIGN KEY (addr) REFERENCES Addresses(ID));
 + d/Addresses.csv
@@ -75,7 +71,7 @@ pub const DIRECT: &str = "<~Addresses/ID=18> <rdf:type> <~Addresses> .
 <~People/ID=8> <~People#fname> \"Sue\" .
 ";
 
-/// None of the files that `invert` stores.
+/// None of the files that `invert` stores of the map graph.
 pub const NOTHING: &str = "@ o/schema.sql
 -
 @ o/Addresses.csv
@@ -84,16 +80,82 @@ pub const NOTHING: &str = "@ o/schema.sql
 -
 ";
 
-const ONE_FILE: &str = "@ o/schema.sql
+/// Runs over these files, with the map graph in `g`, of which a call fails.
+pub const FAULTS: [&str; 12] = [
+    "map http://foo.example/DB/ d
+~ load 1
+= 4
+! dbrdf: read fault schema
+",
+    "map http://foo.example/DB/ d
+~ load 2
+= 4
+! dbrdf: read fault table 1
+",
+    "map http://foo.example/DB/ d
+~ load 3
+= 4
+! dbrdf: read fault table 2
+",
+    "rows d names
+~ load 4
+= 4
+! dbrdf: read fault query
+",
+    "ask map http://foo.example/DB/ d g people
+~ load 1
+= 4
+! dbrdf: read fault schema
+",
+    "ask map http://foo.example/DB/ d g people
+~ load 2
+= 4
+! dbrdf: read fault query
+",
+    "ask map http://foo.example/DB/ d g people
+~ load 3
+= 4
+! dbrdf: read fault graph
+",
+    "invert http://foo.example/DB/ g o
+~ load 1
+= 4
+! dbrdf: read fault graph
+@ o/schema.sql
+-
+@ o/Addresses.csv
+-
+@ o/People.csv
+-
+",
+    "invert http://foo.example/DB/ g o
+~ store 1
+= 5
+! dbrdf: write fault
+@ o/schema.sql
+-
+@ o/Addresses.csv
+-
+@ o/People.csv
+-
+",
+    "invert http://foo.example/DB/ g o
+~ store 2
+= 5
+! dbrdf: write fault
+@ o/schema.sql
 CREATE TABLE \"Addresses\" (\"ID\" INTEGER, \"city\" TEXT, \"state\" TEXT);
 CREATE TABLE \"People\" (\"ID\" INTEGER, \"addr\" INTEGER, \"fname\" TEXT);
 @ o/Addresses.csv
 -
 @ o/People.csv
 -
-";
-
-const TWO_FILES: &str = "@ o/schema.sql
+",
+    "invert http://foo.example/DB/ g o
+~ store 3
+= 5
+! dbrdf: write fault
+@ o/schema.sql
 CREATE TABLE \"Addresses\" (\"ID\" INTEGER, \"city\" TEXT, \"state\" TEXT);
 CREATE TABLE \"People\" (\"ID\" INTEGER, \"addr\" INTEGER, \"fname\" TEXT);
 @ o/Addresses.csv
@@ -101,86 +163,11 @@ ID,city,state
 18,Cambridge,MA
 @ o/People.csv
 -
-";
-
-const INVERT: &str = "invert http://foo.example/DB/ g o";
-
-const ASK: &str = "ask map http://foo.example/DB/ d g people";
-
-/// The words, the call that fails, how the run ends, and the files that stand then.
-pub const FAULTS: [(&str, Fault, &str, &str); 12] = [
-    (
-        "map http://foo.example/DB/ d",
-        Fault::Load(1),
-        "4\n! dbrdf: read fault schema\n",
-        NOTHING,
-    ),
-    (
-        "map http://foo.example/DB/ d",
-        Fault::Load(2),
-        "4\n! dbrdf: read fault table 1\n",
-        NOTHING,
-    ),
-    (
-        "map http://foo.example/DB/ d",
-        Fault::Load(3),
-        "4\n! dbrdf: read fault table 2\n",
-        NOTHING,
-    ),
-    (
-        "rows d names",
-        Fault::Load(4),
-        "4\n! dbrdf: read fault query\n",
-        NOTHING,
-    ),
-    (
-        ASK,
-        Fault::Load(1),
-        "4\n! dbrdf: read fault schema\n",
-        NOTHING,
-    ),
-    (
-        ASK,
-        Fault::Load(2),
-        "4\n! dbrdf: read fault query\n",
-        NOTHING,
-    ),
-    (
-        ASK,
-        Fault::Load(3),
-        "4\n! dbrdf: read fault graph\n",
-        NOTHING,
-    ),
-    (
-        INVERT,
-        Fault::Load(1),
-        "4\n! dbrdf: read fault graph\n",
-        NOTHING,
-    ),
-    (
-        INVERT,
-        Fault::Store(1),
-        "5\n! dbrdf: write fault\n",
-        NOTHING,
-    ),
-    (
-        INVERT,
-        Fault::Store(2),
-        "5\n! dbrdf: write fault\n",
-        ONE_FILE,
-    ),
-    (
-        INVERT,
-        Fault::Store(3),
-        "5\n! dbrdf: write fault\n",
-        TWO_FILES,
-    ),
-    (
-        "direct http://foo.example/DB/ f",
-        Fault::Line(1),
-        "1\n",
-        NOTHING,
-    ),
+",
+    "direct http://foo.example/DB/ f
+~ line 1
+= 1
+",
 ];
 
 /// Cases of damaged files, and of bases that are none.

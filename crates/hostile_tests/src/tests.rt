@@ -1,6 +1,6 @@
 use crate::cases::{DAMAGED, DIRECT, FAULTS, FILES, MAP, NO_COMMANDS, NOTHING};
 use command_trials::{
-    Ended, Fault, ends_as_told, ends_so, files_with, has_files, run_on, run_over, shelf_of,
+    Ended, Fault, ends_over, files_with, first_wrong, has_files, run_on, run_over, shelf_of,
     whole_iris,
 };
 use outside_dm::FileList;
@@ -12,9 +12,9 @@ fn all_files(alloc: Global) -> Option<FileList> {
     files_with(alloc, FILES, "g", graph.as_bytes())
 }
 
-fn fails_so(alloc: Global, line: &str, fault: Fault, ending: &str, stored: &str) -> bool {
+fn fails_as_told(alloc: Global, text: &str) -> bool {
     match all_files(alloc) {
-        Some(files) => ends_so(alloc, line, files, fault, ending, stored),
+        Some(files) => ends_over(alloc, files, text),
         None => false,
     }
 }
@@ -60,9 +60,9 @@ fn is_direct_cut_off(alloc: Global) -> bool {
 
 #[test]
 fn devices_that_fail(rt: HostRuntime) {
-    for (line, fault, ending, stored) in FAULTS {
-        let found = fails_so(rt.alloc(), line, fault, ending, stored);
-        assert!(rt; found, "{line}: {ending}");
+    for text in FAULTS {
+        let found = fails_as_told(rt.alloc(), text);
+        assert!(rt; found, "{text}");
     }
     let found = is_direct_cut_off(rt.alloc());
     assert!(rt; found);
@@ -70,18 +70,14 @@ fn devices_that_fail(rt: HostRuntime) {
 
 #[test]
 fn damaged_files(rt: HostRuntime) {
-    for case in DAMAGED {
-        let found = ends_as_told(rt.alloc(), case);
-        assert!(rt; found, "{case}");
-    }
+    let wrong = first_wrong(rt.alloc(), "", &DAMAGED);
+    assert!(rt; wrong.len() == 0, "{wrong}");
 }
 
 #[test]
 fn words_that_are_no_command(rt: HostRuntime) {
-    for case in NO_COMMANDS {
-        let found = ends_as_told(rt.alloc(), case);
-        assert!(rt; found, "{case}");
-    }
+    let wrong = first_wrong(rt.alloc(), FILES, &NO_COMMANDS);
+    assert!(rt; wrong.len() == 0, "{wrong}");
 }
 
 // Whether the line names one of the causes that a graph that is cut off may be refused for.
