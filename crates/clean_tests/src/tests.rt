@@ -1,7 +1,5 @@
-use command_trials::{Fault, ends_as_told, ends_so, files_of};
-use std::alloc::Global;
+use command_trials::first_wrong;
 
-// Cases of `command_trials`: the words, the files, how the run ends, and the files that stand then.
 const CASES: [&str; 8] = [
     "clean d o
 + d/schema.sql
@@ -129,10 +127,8 @@ CREATE TABLE A (b INT);
 
 #[test]
 fn cleans(rt: HostRuntime) {
-    for case in CASES {
-        let found = ends_as_told(rt.alloc(), case);
-        assert!(rt; found, "{case}");
-    }
+    let wrong = first_wrong(rt.alloc(), "", &CASES);
+    assert!(rt; wrong.len() == 0, "{wrong}");
 }
 
 const FOLDER: &str = "+ d/schema.sql
@@ -148,12 +144,13 @@ id,boss
 7,6
 ";
 
-// The call that fails, how the run over the folder ends, and the files that stand then.
-const FAULTS: [(Fault, &str, &str); 5] = [
-    (
-        Fault::Put(1),
-        "5\n! dbrdf: write fault\n",
-        "@ o/schema.sql
+// Runs over the folder of which a call fails, and the files that stand then.
+const FAULTS: [&str; 5] = [
+    "clean d o
+~ put 1
+= 5
+! dbrdf: write fault
+@ o/schema.sql
 CREATE TABLE E (id INT PRIMARY KEY, boss INT REFERENCES E(id));
 @ o/E.csv
 id,boss
@@ -163,44 +160,42 @@ id,boss
 6,7
 7,6
 ",
-    ),
-    (
-        Fault::Store(1),
-        "5\n! dbrdf: write fault\n",
-        "@ o/schema.sql\n-\n@ o/E.csv\n-\n",
-    ),
-    (
-        Fault::Store(2),
-        "5\n! dbrdf: write fault\n",
-        "@ o/schema.sql
+    "clean d o
+~ store 1
+= 5
+! dbrdf: write fault
+@ o/schema.sql
+-
+@ o/E.csv
+-
+",
+    "clean d o
+~ store 2
+= 5
+! dbrdf: write fault
+@ o/schema.sql
 CREATE TABLE E (id INT PRIMARY KEY, boss INT REFERENCES E(id));
 @ o/E.csv
 -
 ",
-    ),
-    (
-        Fault::Load(1),
-        "4\n! dbrdf: read fault schema\n",
-        "@ o/schema.sql\n-\n",
-    ),
-    (
-        Fault::Load(2),
-        "4\n! dbrdf: read fault table 1\n",
-        "@ o/schema.sql\n-\n",
-    ),
+    "clean d o
+~ load 1
+= 4
+! dbrdf: read fault schema
+@ o/schema.sql
+-
+",
+    "clean d o
+~ load 2
+= 4
+! dbrdf: read fault table 1
+@ o/schema.sql
+-
+",
 ];
-
-fn fails_so(alloc: Global, fault: Fault, ending: &str, stored: &str) -> bool {
-    match files_of(alloc, FOLDER) {
-        Some(files) => ends_so(alloc, "clean d o", files, fault, ending, stored),
-        None => false,
-    }
-}
 
 #[test]
 fn keeps_what_was_stored(rt: HostRuntime) {
-    for (fault, ending, stored) in FAULTS {
-        let found = fails_so(rt.alloc(), fault, ending, stored);
-        assert!(rt; found, "{ending} {stored}");
-    }
+    let wrong = first_wrong(rt.alloc(), FOLDER, &FAULTS);
+    assert!(rt; wrong.len() == 0, "{wrong}");
 }

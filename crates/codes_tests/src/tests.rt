@@ -1,4 +1,4 @@
-use command_trials::{Ended, Fault, files_of, run_over};
+use command_trials::{Ended, fault_of, files_of, run_over};
 use std::alloc::Global;
 
 // The inputs of docs/CODES.md, as they stand there: the words, then each file, its name behind `+` and then its lines, and at the end
@@ -357,18 +357,13 @@ SELECT DISTINCT ?a WHERE { ?x ?p ?a }
 "#,
 ];
 
-// The inputs of the page of which a call fails, and the call.
-const FAULTS: [(Fault, &str); 3] = [
-    (
-        Fault::Load(1),
-        r#"dbrdf check d
+// The inputs of the page of which a call fails.
+const FAULTS: [&str; 3] = [
+    r#"dbrdf check d
 ~ load 1
 ! 4 dbrdf: read fault schema
 "#,
-    ),
-    (
-        Fault::Put(1),
-        r#"dbrdf check d
+    r#"dbrdf check d
 + d/schema.sql
 CREATE TABLE T (a INT);
 + d/T.csv
@@ -376,10 +371,7 @@ a
 ~ put 1
 ! 5 dbrdf: write fault
 "#,
-    ),
-    (
-        Fault::Store(1),
-        r#"dbrdf clean d out
+    r#"dbrdf clean d out
 + d/schema.sql
 CREATE TABLE T (a INT);
 + d/T.csv
@@ -387,7 +379,6 @@ a
 ~ store 1
 ! 5 dbrdf: write fault
 "#,
-    ),
 ];
 
 // The status of a run and its line, as an input tells them.
@@ -403,30 +394,36 @@ fn ending_of(alloc: Global, ended: &Ended) -> Option<Vec<u8>> {
     Some(ending)
 }
 
-// Whether an input ends as its last line says, where this call fails. Its files end before a line `~`, if there is one.
-fn ends(alloc: Global, input: &str, fault: Fault) -> Option<bool> {
+// Whether an input ends as its last line says. Where a call fails, a line behind `~` tells it.
+fn ends(alloc: Global, input: &str) -> Option<bool> {
     let (before, wanted) = input.split_once("! ")?;
-    let (before, _) = before.split_once("~ ").unwrap_or((before, ""));
+    let (before, call) = before.split_once("~ ").unwrap_or((before, ""));
     let (line, files) = before.split_once('\n')?;
     let line = line.strip_prefix("dbrdf ")?;
-    let ended = run_over(alloc, line, files_of(alloc, files)?, fault)?;
+    let ended = run_over(alloc, line, files_of(alloc, files)?, fault_of(call)?)?;
     Some(ending_of(alloc, &ended)?.as_slice() == wanted.as_bytes())
+}
+
+// The first of the inputs that ends otherwise, or nothing.
+fn first_wrong<'a>(alloc: Global, inputs: &[&'a str]) -> &'a str {
+    for input in inputs {
+        if !ends(alloc, input).unwrap_or(false) {
+            return input;
+        }
+    }
+    ""
 }
 
 #[test]
 fn inputs(rt: HostRuntime) {
-    for input in INPUTS {
-        let found = ends(rt.alloc(), input, Fault::Nowhere).unwrap_or(false);
-        assert!(rt; found, "{input}");
-    }
+    let wrong = first_wrong(rt.alloc(), &INPUTS);
+    assert!(rt; wrong.len() == 0, "{wrong}");
 }
 
 #[test]
 fn faults(rt: HostRuntime) {
-    for (fault, input) in FAULTS {
-        let found = ends(rt.alloc(), input, fault).unwrap_or(false);
-        assert!(rt; found, "{input}");
-    }
+    let wrong = first_wrong(rt.alloc(), &FAULTS);
+    assert!(rt; wrong.len() == 0, "{wrong}");
 }
 
 // A text with as many parts as this, each with its number in it.
@@ -453,7 +450,7 @@ fn is_schema_so(alloc: Global, statements: &str, ending: &str) -> Option<bool> {
     let input = format!(in alloc;
         "dbrdf check d\n+ d/schema.sql\n{statements}\n! 1 dbrdf: refused {ending}\n"
     ).ok()?;
-    ends(alloc, input.as_str(), Fault::Nowhere)
+    ends(alloc, input.as_str())
 }
 
 fn are_too_many_tables(alloc: Global) -> Option<bool> {

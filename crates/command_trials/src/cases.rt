@@ -1,7 +1,44 @@
-use crate::files::{files_of, has_files};
-use crate::runs::{Ended, Fault, run_on, run_without_faults, shelf_of};
+use crate::files::{add_files, files_of, has_files};
+use crate::runs::{Ended, Fault, fault_of, run_on, run_without_faults, shelf_of};
 use outside_dm::FileList;
 use std::alloc::Global;
+
+/// The parts of a case.
+#[derive(Clone, Copy, Drop)]
+pub struct Case<'a> {
+    /// The words (`words_of`).
+    pub line: &'a str,
+
+    /// The files (`files_of`).
+    pub files: &'a str,
+
+    /// The call that fails.
+    pub fault: Fault,
+
+    /// How the run ends: the number of its status as a line, the output, and the line on standard error behind `! `, where there is
+    /// one.
+    pub ending: &'a str,
+
+    /// The files that stand then (`has_files`).
+    pub stored: &'a str,
+}
+
+/// The parts of a case that is told as text: the words as a line; each file behind `+ `; where a call fails, its device and number as
+/// a line behind `~ ` (`fault_of`); how the run ends, behind `= `; and each file that stands then, behind `@ `. None where it has no
+/// words or no ending, or no such call.
+pub fn case_of(text: &str) -> Option<Case> {
+    let (given, wanted) = text.split_once("= ")?;
+    let (line, given) = given.split_once('\n')?;
+    let (files, call) = given.split_once("~ ").unwrap_or((given, ""));
+    let (ending, stored) = wanted.split_once("@ ").unwrap_or((wanted, ""));
+    Some(Case {
+        line,
+        files,
+        fault: fault_of(call)?,
+        ending,
+        stored,
+    })
+}
 
 // How a run ended, as a case tells it.
 fn ending_of(alloc: Global, ended: &Ended) -> Option<Vec<u8>> {
@@ -22,8 +59,7 @@ fn is_ending(alloc: Global, ended: &Ended, ending: &str) -> bool {
     }
 }
 
-/// Whether a run of the words over these files, of which this call fails, ends so: the number of its status as a line, the output,
-/// and the line on standard error behind `! `, where there is one; and whether these files stand then (`has_files`).
+/// Whether a run of the words over these files, of which this call fails, ends so, and these files stand then.
 pub fn ends_so(
     alloc: Global,
     line: &str,
@@ -41,36 +77,49 @@ pub fn ends_so(
     }
 }
 
-// The parts of a case: its words, its files, and how it ends.
-fn parts_of(case: &str) -> Option<(&str, &str, &str)> {
-    let (given, wanted) = case.split_once("= ")?;
-    let (line, files) = given.split_once('\n')?;
-    Some((line, files, wanted))
-}
-
-/// Whether a case ends as it tells. A case is the words; the files (`files_of`); the ending (`ends_so`) behind `= `; and the files
-/// that stand then (`has_files`).
-pub fn ends_as_told(alloc: Global, case: &str) -> bool {
-    let Some((line, files, wanted)) = parts_of(case) else {
+/// Whether a case (`case_of`) over these files and its own ends as it tells.
+pub fn ends_over(alloc: Global, files: FileList, text: &str) -> bool {
+    let Some(case) = case_of(text) else {
         return false;
     };
-    let (ending, stored) = wanted.split_once("@ ").unwrap_or((wanted, ""));
+    let mut all = files;
+    match add_files(alloc, &mut all, case.files) {
+        Some(()) => ends_so(alloc, case.line, all, case.fault, case.ending, case.stored),
+        None => false,
+    }
+}
+
+/// Whether a case (`case_of`) over the files that are told as text (`files_of`) and its own ends as it tells.
+pub fn ends_as_told(alloc: Global, files: &str, text: &str) -> bool {
     match files_of(alloc, files) {
-        Some(files) => ends_so(alloc, line, files, Fault::Nowhere, ending, stored),
+        Some(files) => ends_over(alloc, files, text),
         None => false,
     }
 }
 
 /// Whether a case that stores no files ends as it tells over devices that never fail.
-pub fn ends_without_faults(alloc: Global, case: &str) -> bool {
-    let Some((line, files, ending)) = parts_of(case) else {
+pub fn ends_without_faults(alloc: Global, files: &str, text: &str) -> bool {
+    let Some(case) = case_of(text) else {
         return false;
     };
-    let Some(files) = files_of(alloc, files) else {
+    let Some(mut all) = files_of(alloc, files) else {
         return false;
     };
-    match run_without_faults(alloc, line, files) {
-        Some(ended) => is_ending(alloc, &ended, ending),
+    if add_files(alloc, &mut all, case.files).is_none() {
+        return false;
+    }
+    match run_without_faults(alloc, case.line, all) {
+        Some(ended) => is_ending(alloc, &ended, case.ending),
         None => false,
     }
+}
+
+/// The first of the cases that ends otherwise than it tells over these files and its own, or nothing.
+pub fn first_wrong<'a>(alloc: Global, files: &str, cases: &[&'a str]) -> &'a str {
+    for text in cases {
+        if !ends_as_told(alloc, files, text) {
+            return text;
+        }
+    }
+    ""
 }

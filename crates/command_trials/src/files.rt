@@ -26,15 +26,21 @@ fn bytes_of(alloc: Global, text: &str) -> Option<Vec<u8>> {
     Some(bytes)
 }
 
-/// The files that are told as text, each its name behind `+ ` and then its lines, in which `<FF>` stands for the one byte FF. None
-/// where two have one name, or for want of memory.
-pub fn files_of(alloc: Global, files: &str) -> Option<FileList> {
-    let mut list = FileList::new(alloc);
+/// Adds the files that are told as text, each its name behind `+ ` and then its lines, in which `<FF>` stands for the one byte FF.
+/// None where two have one name, or for want of memory.
+pub fn add_files(alloc: Global, list: &mut FileList, files: &str) -> Option<()> {
     for file in files.split("+ ") {
         if let Some((name, content)) = file.split_once('\n') {
-            add_file(alloc, &mut list, name, bytes_of(alloc, content)?.as_slice())?;
+            add_file(alloc, list, name, bytes_of(alloc, content)?.as_slice())?;
         }
     }
+    Some(())
+}
+
+/// The files that are told as text (`add_files`). None where two have one name, or for want of memory.
+pub fn files_of(alloc: Global, files: &str) -> Option<FileList> {
+    let mut list = FileList::new(alloc);
+    add_files(alloc, &mut list, files)?;
     Some(list)
 }
 

@@ -2,7 +2,7 @@ use std::alloc::Global;
 
 // What stands for a longer text in a case, and the text.
 const PREFIXES: [(&str, &str); 5] = [
-    ("~", "http://foo.example/DB/"),
+    ("<~", "<http://foo.example/DB/"),
     ("<rdf:", "<http://www.w3.org/1999/02/22-rdf-syntax-ns#"),
     ("<rdfs:", "<http://www.w3.org/2000/01/rdf-schema#"),
     ("<owl:", "<http://www.w3.org/2002/07/owl#"),
@@ -20,8 +20,8 @@ fn replaced(alloc: Global, text: &str, mark: &str, word: &str) -> Option<String>
     Some(whole)
 }
 
-/// The text with whole IRIs: `~` stands for `http://foo.example/DB/`, and `rdf:`, `rdfs:`, `owl:` and `xsd:` at the front of an IRI
-/// for their namespaces. None for want of memory.
+/// The text with whole IRIs: at the front of one `~` stands for `http://foo.example/DB/`, and `rdf:`, `rdfs:`, `owl:` and `xsd:` for
+/// their namespaces. None for want of memory.
 pub fn whole_iris(alloc: Global, text: &str) -> Option<String> {
     let mut whole = String::from_str(alloc, text).ok()?;
     for (mark, word) in PREFIXES {

@@ -7,9 +7,11 @@ mod files;
 mod iris;
 mod runs;
 
-pub use cases::{ends_as_told, ends_so, ends_without_faults};
-pub use files::{add_file, files_of, files_with, has_files};
+pub use cases::{
+    Case, case_of, ends_as_told, ends_over, ends_so, ends_without_faults, first_wrong,
+};
+pub use files::{add_file, add_files, files_of, files_with, has_files};
 pub use iris::whole_iris;
 pub use runs::{
-    Ended, Fault, output_of, run_on, run_over, run_without_faults, run_words, shelf_of, words_of,
+    Ended, Fault, fault_of, output_of, run_on, run_over, run_without_faults, shelf_of, words_of,
 };

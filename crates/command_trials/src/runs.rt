@@ -29,6 +29,24 @@ pub struct Ended {
     pub line: Vec<u8>,
 }
 
+/// The call that is told as a word and a number, as `load 1`; `store`, `put`, `kept` and `line` are the others, and no text is no
+/// call. None where there is no such call.
+pub fn fault_of(text: &str) -> Option<Fault> {
+    if text.len() == 0 {
+        return Some(Fault::Nowhere);
+    }
+    let (device, number) = text.split_once(' ')?;
+    let call = number.trim_end().parse::<u64>().ok()?;
+    match device {
+        "load" => Some(Fault::Load(call)),
+        "store" => Some(Fault::Store(call)),
+        "put" => Some(Fault::Put(call)),
+        "kept" => Some(Fault::Kept(call)),
+        "line" => Some(Fault::Line(call)),
+        _ => None,
+    }
+}
+
 /// A shelf in memory of which this load or store fails. None for want of memory.
 pub fn shelf_of(alloc: Global, files: FileList, fault: Fault) -> Option<MemoryShelf> {
     let mut loads = Calls::new(alloc);
@@ -63,8 +81,20 @@ fn line_sink(alloc: Global, fault: Fault) -> Option<MemorySink> {
     }
 }
 
-/// The words of a command line, parted by spaces. None for want of memory.
+fn words_between_bars(alloc: Global, line: &str) -> Option<Vec<String>> {
+    let mut words = Vec::new(alloc);
+    for word in line.split('|') {
+        words.push(String::from_str(alloc, word).ok()?).ok()?;
+    }
+    Some(words)
+}
+
+/// The words of a command line: what bars part, where it has one, so that a word may be empty or have a space in it, and else what
+/// spaces part. None for want of memory.
 pub fn words_of(alloc: Global, line: &str) -> Option<Vec<String>> {
+    if line.contains('|') {
+        return words_between_bars(alloc, line);
+    }
     let mut words = Vec::new(alloc);
     for word in line.split_whitespace() {
         words.push(String::from_str(alloc, word).ok()?).ok()?;
@@ -91,24 +121,14 @@ fn number_of<S: Shelf, K: Sink, D: Sink>(
     run(alloc, words, shelf, out, diag).number()
 }
 
-/// Runs the words over this shelf, and over sinks in memory of which this put fails. None for want of memory.
-pub fn run_words(
-    alloc: Global,
-    words: &[String],
-    shelf: &mut MemoryShelf,
-    fault: Fault,
-) -> Option<Ended> {
-    let mut out = output_sink(alloc, fault)?;
-    let mut diag = line_sink(alloc, fault)?;
-    let number = number_of(alloc, words, shelf, &mut out, &mut diag);
-    make_ended(alloc, number, out.bytes(), diag.bytes())
-}
-
-/// Runs the words of a command line, parted by spaces, over this shelf, and over sinks in memory of which this put fails. None for
-/// want of memory.
+/// Runs the words of a command line (`words_of`) over this shelf, and over sinks in memory of which this put fails. None for want of
+/// memory.
 pub fn run_on(alloc: Global, line: &str, shelf: &mut MemoryShelf, fault: Fault) -> Option<Ended> {
     let words = words_of(alloc, line)?;
-    run_words(alloc, &words, shelf, fault)
+    let mut out = output_sink(alloc, fault)?;
+    let mut diag = line_sink(alloc, fault)?;
+    let number = number_of(alloc, &words, shelf, &mut out, &mut diag);
+    make_ended(alloc, number, out.bytes(), diag.bytes())
 }
 
 /// Runs the words of a command line over a shelf in memory and sinks, of which this call fails. None for want of memory.

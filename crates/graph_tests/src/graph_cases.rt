@@ -1,7 +1,7 @@
 //! Cases of `direct`, `map` and `map-keys`. In them `~` stands for `http://foo.example/DB/`, and prefixes for the namespaces.
 
-pub const PEOPLE: &str = "direct http://foo.example/DB/ d
-+ d/schema.sql
+/// A folder.
+pub const FOLDER: &str = "+ d/schema.sql
 CREATE TABLE Addresses (ID INT PRIMARY KEY, city CHAR(10), state CHAR(2)); CREATE TABLE People (ID INT PRIMARY KEY, fname CHAR(10), addr INT, FOREIGN KEY (addr) REFERENCES Addresses(ID));
 + d/Addresses.csv
 ID,city,state
@@ -10,6 +10,11 @@ ID,city,state
 ID,fname,addr
 7,Bob,18
 8,Sue,\\N
+";
+
+/// Its direct graph.
+pub const PEOPLE: [&str; 1] = [
+    "direct http://foo.example/DB/ d
 = 0
 <~Addresses/ID=18> <rdf:type> <~Addresses> .
 <~Addresses/ID=18> <~Addresses#ID> \"18\"^^<xsd:integer> .
@@ -23,7 +28,8 @@ ID,fname,addr
 <~People/ID=8> <rdf:type> <~People> .
 <~People/ID=8> <~People#ID> \"8\"^^<xsd:integer> .
 <~People/ID=8> <~People#fname> \"Sue\" .
-";
+",
+];
 
 pub const DIRECT: [&str; 9] = [
     "direct http://foo.example/DB/ d

@@ -1,29 +1,30 @@
-use crate::graph_cases::{DIRECT, MAP, MAP_KEYS, PEOPLE};
+use crate::graph_cases::{DIRECT, FOLDER, MAP, MAP_KEYS, PEOPLE};
 use crate::line_cases::{CHECKED, JUDGED, MAP_KEYS_VERDICTS, SHOW_REFUSALS, SHOWN};
 use crate::refusal_cases::{GRAPH_REFUSALS, NO_TEXTS, REFUSALS};
 use cmd_dm::{Command, Status, fault_text, read_words};
 use command_trials::{
     Ended, Fault, add_file, ends_as_told, ends_so, ends_without_faults, files_of, files_with,
-    run_over, whole_iris, words_of,
+    first_wrong, run_over, whole_iris, words_of,
 };
 use std::alloc::Global;
 use value_dm::NullMode;
 
-// Whether a case ends as it tells, over devices of which no call fails and over devices that never fail.
-fn ends(alloc: Global, case: &str) -> bool {
-    match whole_iris(alloc, case) {
-        Some(case) => {
-            ends_as_told(alloc, case.as_str()) && ends_without_faults(alloc, case.as_str())
+// Whether a case over these files and its own ends as it tells, over devices of which calls may fail and over devices that never do.
+fn ends(alloc: Global, files: &str, text: &str) -> bool {
+    match whole_iris(alloc, text) {
+        Some(text) => {
+            ends_as_told(alloc, files, text.as_str())
+                && ends_without_faults(alloc, files, text.as_str())
         }
         None => false,
     }
 }
 
 // The first of the cases that ends otherwise than it tells, or nothing.
-fn first_wrong<'a>(alloc: Global, cases: &[&'a str]) -> &'a str {
-    for case in cases {
-        if !ends(alloc, case) {
-            return case;
+fn first_other<'a>(alloc: Global, files: &str, cases: &[&'a str]) -> &'a str {
+    for text in cases {
+        if !ends(alloc, files, text) {
+            return text;
         }
     }
     ""
@@ -31,99 +32,90 @@ fn first_wrong<'a>(alloc: Global, cases: &[&'a str]) -> &'a str {
 
 #[test]
 fn writes_direct_graphs(rt: HostRuntime) {
-    let people = first_wrong(rt.alloc(), &[PEOPLE]);
-    assert!(rt; people.len() == 0, "{people}");
-    let wrong = first_wrong(rt.alloc(), &DIRECT);
+    let wrong = first_other(rt.alloc(), FOLDER, &PEOPLE);
+    assert!(rt; wrong.len() == 0, "{wrong}");
+    let wrong = first_other(rt.alloc(), "", &DIRECT);
     assert!(rt; wrong.len() == 0, "{wrong}");
 }
 
 #[test]
 fn writes_map_graphs(rt: HostRuntime) {
-    let wrong = first_wrong(rt.alloc(), &MAP);
+    let wrong = first_other(rt.alloc(), "", &MAP);
     assert!(rt; wrong.len() == 0, "{wrong}");
 }
 
 #[test]
 fn writes_map_keys_graphs(rt: HostRuntime) {
-    let wrong = first_wrong(rt.alloc(), &MAP_KEYS);
+    let wrong = first_other(rt.alloc(), "", &MAP_KEYS);
     assert!(rt; wrong.len() == 0, "{wrong}");
 }
 
 #[test]
 fn shows_triples(rt: HostRuntime) {
-    let wrong = first_wrong(rt.alloc(), &SHOWN);
+    let wrong = first_other(rt.alloc(), "", &SHOWN);
     assert!(rt; wrong.len() == 0, "{wrong}");
-    let wrong = first_wrong(rt.alloc(), &SHOW_REFUSALS);
+    let wrong = first_other(rt.alloc(), "", &SHOW_REFUSALS);
     assert!(rt; wrong.len() == 0, "{wrong}");
 }
 
-// Whether a run over one file ends so, of which this call fails.
-fn ends_over(
-    alloc: Global,
-    line: &str,
-    name: &str,
-    bytes: &[u8],
-    fault: Fault,
-    ending: &str,
-) -> bool {
-    match files_with(alloc, "", name, bytes) {
-        Some(files) => ends_so(alloc, line, files, fault, ending, ""),
-        None => false,
-    }
-}
+const GRAPH_FAULTS: [&str; 1] = [
+    "show g
++ g
+~ load 1
+= 4
+! dbrdf: read fault graph
+",
+];
 
 #[test]
 fn tells_that_the_graph_failed(rt: HostRuntime) {
-    let ending = "4\n! dbrdf: read fault graph\n";
-    let found = ends_over(rt.alloc(), "show g", "g", b"", Fault::Load(1), ending);
-    assert!(rt; found);
+    let wrong = first_wrong(rt.alloc(), "", &GRAPH_FAULTS);
+    assert!(rt; wrong.len() == 0, "{wrong}");
 }
 
 // Whether `consistent` ends so on the text that a case writes.
-fn is_judged(alloc: Global, case: &str, verdict: &str) -> bool {
-    let Some(case) = whole_iris(alloc, case) else {
-        return false;
-    };
-    match case.as_str().split_once("= 0\n") {
-        Some((_, text)) => ends_over(
-            alloc,
-            "consistent g",
-            "g",
-            text.as_bytes(),
-            Fault::Nowhere,
-            verdict,
-        ),
-        None => false,
+fn is_judged(alloc: Global, text: &str, verdict: &str) -> Option<bool> {
+    let text = whole_iris(alloc, text)?;
+    let (_, graph) = text.as_str().split_once("= 0\n")?;
+    let files = files_with(alloc, "", "g", graph.as_bytes())?;
+    Some(ends_so(alloc, "consistent g", files, Fault::Nowhere, verdict, ""))
+}
+
+// The first of the cases on whose graph `consistent` ends otherwise than the verdict at its place, or nothing.
+fn first_misjudged<'a>(alloc: Global, cases: &[&'a str], verdicts: &[&str]) -> &'a str {
+    for (text, verdict) in cases.iter().zip(verdicts.iter()) {
+        if !is_judged(alloc, text, verdict).unwrap_or(false) {
+            return text;
+        }
     }
+    ""
 }
 
 #[test]
 fn judges_graphs(rt: HostRuntime) {
-    let wrong = first_wrong(rt.alloc(), &JUDGED);
+    let wrong = first_other(rt.alloc(), "", &JUDGED);
     assert!(rt; wrong.len() == 0, "{wrong}");
-    for (case, verdict) in MAP_KEYS.iter().zip(MAP_KEYS_VERDICTS.iter()) {
-        let found = is_judged(rt.alloc(), case, verdict);
-        assert!(rt; found, "{case}");
-    }
+    let wrong = first_misjudged(rt.alloc(), &MAP_KEYS, &MAP_KEYS_VERDICTS);
+    assert!(rt; wrong.len() == 0, "{wrong}");
 }
 
 #[test]
 fn checks_keys(rt: HostRuntime) {
-    let wrong = first_wrong(rt.alloc(), &CHECKED);
+    let wrong = first_other(rt.alloc(), "", &CHECKED);
     assert!(rt; wrong.len() == 0, "{wrong}");
 }
 
 #[test]
 fn refuses(rt: HostRuntime) {
-    let wrong = first_wrong(rt.alloc(), &REFUSALS);
+    let wrong = first_other(rt.alloc(), "", &REFUSALS);
     assert!(rt; wrong.len() == 0, "{wrong}");
-    let wrong = first_wrong(rt.alloc(), &GRAPH_REFUSALS);
+    let wrong = first_other(rt.alloc(), "", &GRAPH_REFUSALS);
     assert!(rt; wrong.len() == 0, "{wrong}");
 }
 
 #[test]
 fn refuses_bytes_that_are_no_text(rt: HostRuntime) {
-    let wrong = first_wrong(rt.alloc(), &NO_TEXTS);
+    let wrong = first_other(rt.alloc(), "", &NO_TEXTS);
     assert!(rt; wrong.len() == 0, "{wrong}");
 }
 
@@ -155,43 +147,44 @@ fn refuses_files_that_are_too_long(rt: HostRuntime) {
     assert!(rt; found);
 }
 
-// How a case ends where this call fails.
-fn ended(alloc: Global, case: &str, fault: Fault) -> Option<Ended> {
-    let (given, _) = case.split_once("= ")?;
-    let (line, files) = given.split_once('\n')?;
-    run_over(alloc, line, files_of(alloc, files)?, fault)
-}
-
-// Whether a case where this call fails ends with this number, output and line.
-fn fails_so(alloc: Global, case: &str, fault: Fault, number: u8, output: &str, line: &str) -> bool {
-    match ended(alloc, case, fault) {
-        Some(ended) => {
-            ended.number == number
-                && ended.output.as_slice() == output.as_bytes()
-                && ended.line.as_slice() == line.as_bytes()
-        }
-        None => false,
-    }
-}
-
-// The load that fails, and the line.
-const LOADS: [(u64, &str); 3] = [
-    (1, "dbrdf: read fault schema\n"),
-    (2, "dbrdf: read fault table 1\n"),
-    (3, "dbrdf: read fault table 2\n"),
+// Runs over the folder of which a load fails.
+const LOADS: [&str; 3] = [
+    "direct http://foo.example/DB/ d
+~ load 1
+= 4
+! dbrdf: read fault schema
+",
+    "direct http://foo.example/DB/ d
+~ load 2
+= 4
+! dbrdf: read fault table 1
+",
+    "direct http://foo.example/DB/ d
+~ load 3
+= 4
+! dbrdf: read fault table 2
+",
 ];
 
 #[test]
 fn tells_the_load_that_failed(rt: HostRuntime) {
-    for (load, line) in LOADS {
-        let found = fails_so(rt.alloc(), PEOPLE, Fault::Load(load), 4, "", line);
-        assert!(rt; found, "{line}");
-    }
+    let wrong = first_wrong(rt.alloc(), FOLDER, &LOADS);
+    assert!(rt; wrong.len() == 0, "{wrong}");
+}
+
+fn direct(alloc: Global, put: u64) -> Option<Ended> {
+    let files = files_of(alloc, FOLDER)?;
+    run_over(
+        alloc,
+        "direct http://foo.example/DB/ d",
+        files,
+        Fault::Put(put),
+    )
 }
 
 // Whether the run ends well or, where the put with this number fails, with a prefix of the text and the line on it.
 fn stops_at_put(alloc: Global, put: u64, whole: &[u8]) -> bool {
-    match ended(alloc, PEOPLE, Fault::Put(put)) {
+    match direct(alloc, put) {
         Some(ended) => match ended.number {
             0 => ended.output.as_slice() == whole,
             number => {
@@ -204,37 +197,48 @@ fn stops_at_put(alloc: Global, put: u64, whole: &[u8]) -> bool {
     }
 }
 
-fn stops_at_each_put(alloc: Global) -> bool {
-    let Some(case) = whole_iris(alloc, PEOPLE) else {
-        return false;
-    };
-    let Some((_, whole)) = case.as_str().split_once("= 0\n") else {
-        return false;
-    };
+fn stops_at_each_put(alloc: Global) -> Option<bool> {
+    let text = whole_iris(alloc, PEOPLE[0])?;
+    let (_, whole) = text.as_str().split_once("= 0\n")?;
     for put in 1..200 {
         if !stops_at_put(alloc, put, whole.as_bytes()) {
-            return false;
+            return None;
         }
     }
-    true
+    Some(true)
 }
+
+// A run of which the first put keeps one byte.
+const FIRST_BYTE: [&str; 1] = [
+    "direct http://foo.example/DB/ d
+~ kept 1
+= 5
+<! dbrdf: write fault
+",
+];
 
 #[test]
 fn keeps_a_prefix_where_a_put_fails(rt: HostRuntime) {
-    let found = stops_at_each_put(rt.alloc());
+    let found = stops_at_each_put(rt.alloc()).unwrap_or(false);
     assert!(rt; found);
-    let line = "dbrdf: write fault\n";
-    let found = fails_so(rt.alloc(), PEOPLE, Fault::Kept(1), 5, "<", line);
-    assert!(rt; found);
+    let wrong = first_wrong(rt.alloc(), FOLDER, &FIRST_BYTE);
+    assert!(rt; wrong.len() == 0, "{wrong}");
 }
 
-const FLOAT: &str =
-    "direct http://foo.example/DB/ d\n+ d/schema.sql\nCREATE TABLE T (a FLOAT);\n= 1";
+// A refused run of which the line fails.
+const LINE: [&str; 1] = [
+    "direct http://foo.example/DB/ d
++ d/schema.sql
+CREATE TABLE T (a FLOAT);
+~ line 1
+= 1
+",
+];
 
 #[test]
 fn a_line_that_fails_changes_no_status(rt: HostRuntime) {
-    let found = fails_so(rt.alloc(), FLOAT, Fault::Line(1), 1, "", "");
-    assert!(rt; found);
+    let wrong = first_wrong(rt.alloc(), "", &LINE);
+    assert!(rt; wrong.len() == 0, "{wrong}");
 }
 
 fn is_direct(command: &Command) -> bool {

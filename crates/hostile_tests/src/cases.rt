@@ -1,10 +1,6 @@
-//! The files, texts and tables of the tests. In the graphs `~` stands for `http://foo.example/DB/`, and prefixes for the namespaces;
-//! in a file `<FF>` stands for the one byte FF.
+//! The files, texts and tables of the tests. In the graphs `~` stands for `http://foo.example/DB/`, and prefixes for the namespaces.
 
-use command_trials::Fault;
-
-/// A folder `d`, a folder `f` with a schema that is refused, the queries `people` and `names`, and the file `g` with the map graph of
-/// `d`.
+/// A folder `d`, a folder `f` with a schema that is refused, and the queries `people` and `names`.
 pub const FILES: &str = "+ d/schema.sql
 CREATE TABLE Addresses (ID INT PRIMARY KEY, city CHAR(10), state CHAR(2)); CREATE TABLE People (ID INT PRIMARY KEY, fname CHAR(10), addr INT, FOREIGN KEY (addr) REFERENCES Addresses(ID));
 + d/Addresses.csv
@@ -75,7 +71,7 @@ pub const DIRECT: &str = "<~Addresses/ID=18> <rdf:type> <~Addresses> .
 <~People/ID=8> <~People#fname> \"Sue\" .
 ";
 
-/// None of the files that `invert` stores.
+/// None of the files that `invert` stores of the map graph.
 pub const NOTHING: &str = "@ o/schema.sql
 -
 @ o/Addresses.csv
@@ -84,16 +80,82 @@ pub const NOTHING: &str = "@ o/schema.sql
 -
 ";
 
-const ONE_FILE: &str = "@ o/schema.sql
+/// Runs over these files, with the map graph in `g`, of which a call fails.
+pub const FAULTS: [&str; 12] = [
+    "map http://foo.example/DB/ d
+~ load 1
+= 4
+! dbrdf: read fault schema
+",
+    "map http://foo.example/DB/ d
+~ load 2
+= 4
+! dbrdf: read fault table 1
+",
+    "map http://foo.example/DB/ d
+~ load 3
+= 4
+! dbrdf: read fault table 2
+",
+    "rows d names
+~ load 4
+= 4
+! dbrdf: read fault query
+",
+    "ask map http://foo.example/DB/ d g people
+~ load 1
+= 4
+! dbrdf: read fault schema
+",
+    "ask map http://foo.example/DB/ d g people
+~ load 2
+= 4
+! dbrdf: read fault query
+",
+    "ask map http://foo.example/DB/ d g people
+~ load 3
+= 4
+! dbrdf: read fault graph
+",
+    "invert http://foo.example/DB/ g o
+~ load 1
+= 4
+! dbrdf: read fault graph
+@ o/schema.sql
+-
+@ o/Addresses.csv
+-
+@ o/People.csv
+-
+",
+    "invert http://foo.example/DB/ g o
+~ store 1
+= 5
+! dbrdf: write fault
+@ o/schema.sql
+-
+@ o/Addresses.csv
+-
+@ o/People.csv
+-
+",
+    "invert http://foo.example/DB/ g o
+~ store 2
+= 5
+! dbrdf: write fault
+@ o/schema.sql
 CREATE TABLE \"Addresses\" (\"ID\" INTEGER, \"city\" TEXT, \"state\" TEXT);
 CREATE TABLE \"People\" (\"ID\" INTEGER, \"addr\" INTEGER, \"fname\" TEXT);
 @ o/Addresses.csv
 -
 @ o/People.csv
 -
-";
-
-const TWO_FILES: &str = "@ o/schema.sql
+",
+    "invert http://foo.example/DB/ g o
+~ store 3
+= 5
+! dbrdf: write fault
+@ o/schema.sql
 CREATE TABLE \"Addresses\" (\"ID\" INTEGER, \"city\" TEXT, \"state\" TEXT);
 CREATE TABLE \"People\" (\"ID\" INTEGER, \"addr\" INTEGER, \"fname\" TEXT);
 @ o/Addresses.csv
@@ -101,225 +163,148 @@ ID,city,state
 18,Cambridge,MA
 @ o/People.csv
 -
-";
-
-const INVERT: &str = "invert http://foo.example/DB/ g o";
-
-const ASK: &str = "ask map http://foo.example/DB/ d g people";
-
-/// The words, the call that fails, how the run ends, and the files that stand then.
-pub const FAULTS: [(&str, Fault, &str, &str); 12] = [
-    (
-        "map http://foo.example/DB/ d",
-        Fault::Load(1),
-        "4\n! dbrdf: read fault schema\n",
-        NOTHING,
-    ),
-    (
-        "map http://foo.example/DB/ d",
-        Fault::Load(2),
-        "4\n! dbrdf: read fault table 1\n",
-        NOTHING,
-    ),
-    (
-        "map http://foo.example/DB/ d",
-        Fault::Load(3),
-        "4\n! dbrdf: read fault table 2\n",
-        NOTHING,
-    ),
-    (
-        "rows d names",
-        Fault::Load(4),
-        "4\n! dbrdf: read fault query\n",
-        NOTHING,
-    ),
-    (
-        ASK,
-        Fault::Load(1),
-        "4\n! dbrdf: read fault schema\n",
-        NOTHING,
-    ),
-    (
-        ASK,
-        Fault::Load(2),
-        "4\n! dbrdf: read fault query\n",
-        NOTHING,
-    ),
-    (
-        ASK,
-        Fault::Load(3),
-        "4\n! dbrdf: read fault graph\n",
-        NOTHING,
-    ),
-    (
-        INVERT,
-        Fault::Load(1),
-        "4\n! dbrdf: read fault graph\n",
-        NOTHING,
-    ),
-    (
-        INVERT,
-        Fault::Store(1),
-        "5\n! dbrdf: write fault\n",
-        NOTHING,
-    ),
-    (
-        INVERT,
-        Fault::Store(2),
-        "5\n! dbrdf: write fault\n",
-        ONE_FILE,
-    ),
-    (
-        INVERT,
-        Fault::Store(3),
-        "5\n! dbrdf: write fault\n",
-        TWO_FILES,
-    ),
-    (
-        "direct http://foo.example/DB/ f",
-        Fault::Line(1),
-        "1\n",
-        NOTHING,
-    ),
+",
+    "direct http://foo.example/DB/ f
+~ line 1
+= 1
+",
 ];
 
-/// The words, parted by bars; the files; the number of the status; and the line.
-pub const DAMAGED: [(&str, &str, u8, &str); 17] = [
-    (
-        "check|d",
-        "+ d/schema.sql
-<FF>",
-        1,
-        "dbrdf: refused 15 NotUtf8 place 1\n",
-    ),
-    (
-        "check|d",
-        "+ d/schema.sql
-/* x",
-        1,
-        "dbrdf: refused 16 BadToken place 1\n",
-    ),
-    (
-        "check|d",
-        "+ d/schema.sql
-CREATE TABLE \"T",
-        1,
-        "dbrdf: refused 16 BadToken place 14\n",
-    ),
-    (
-        "check|d",
-        "+ d/schema.sql
-CREATE TABLE T (a TEXT); CREATE TABLE T (a TEXT);",
-        1,
-        "dbrdf: refused 4 DuplicateTable table 2\n",
-    ),
-    (
-        "check|d",
-        "+ d/schema.sql
+/// Cases of damaged files, and of bases that are none.
+pub const DAMAGED: [&str; 17] = [
+    "check d
++ d/schema.sql
+<FF>= 1
+! dbrdf: refused 15 NotUtf8 place 1
+",
+    "check d
++ d/schema.sql
+/* x= 1
+! dbrdf: refused 16 BadToken place 1
+",
+    "check d
++ d/schema.sql
+CREATE TABLE \"T= 1
+! dbrdf: refused 16 BadToken place 14
+",
+    "check d
++ d/schema.sql
+CREATE TABLE T (a TEXT); CREATE TABLE T (a TEXT);= 1
+! dbrdf: refused 4 DuplicateTable table 2
+",
+    "check d
++ d/schema.sql
 CREATE TABLE T (a TEXT, b INT NOT NULL);
 + d/T.csv
+= 1
+! dbrdf: refused 19 NoHeader table 1
 ",
-        1,
-        "dbrdf: refused 19 NoHeader table 1\n",
-    ),
-    (
-        "check|d",
-        "+ d/schema.sql
+    "check d
++ d/schema.sql
 CREATE TABLE T (a TEXT, b INT NOT NULL);
 + d/T.csv
 a,c
+= 1
+! dbrdf: refused 20 BadHeader table 1 column 2
 ",
-        1,
-        "dbrdf: refused 20 BadHeader table 1 column 2\n",
-    ),
-    (
-        "check|d",
-        "+ d/schema.sql
+    "check d
++ d/schema.sql
 CREATE TABLE T (a TEXT, b INT NOT NULL);
 + d/T.csv
 a
+= 1
+! dbrdf: refused 20 BadHeader table 1 column 2
 ",
-        1,
-        "dbrdf: refused 20 BadHeader table 1 column 2\n",
-    ),
-    (
-        "check|d",
-        "+ d/schema.sql
+    "check d
++ d/schema.sql
 CREATE TABLE T (a TEXT, b INT NOT NULL);
 + d/T.csv
 a,b
 x
+= 1
+! dbrdf: refused 21 FieldCount table 1 place 2
 ",
-        1,
-        "dbrdf: refused 21 FieldCount table 1 place 2\n",
-    ),
-    (
-        "check|d",
-        "+ d/schema.sql
+    "check d
++ d/schema.sql
 CREATE TABLE T (a TEXT, b INT NOT NULL);
 + d/T.csv
 a,b
 <FF>,1
+= 1
+! dbrdf: refused 22 TextNotUtf8 table 1 place 2 column 1
 ",
-        1,
-        "dbrdf: refused 22 TextNotUtf8 table 1 place 2 column 1\n",
-    ),
-    (
-        "check|d",
-        "+ d/schema.sql
+    "check d
++ d/schema.sql
 CREATE TABLE T (a TEXT, b INT NOT NULL);
 + d/T.csv
 a,b
 x,y
+= 1
+! dbrdf: refused 23 BadValue table 1 place 2 column 2
 ",
-        1,
-        "dbrdf: refused 23 BadValue table 1 place 2 column 2\n",
-    ),
-    (
-        "check|d",
-        "+ d/schema.sql
+    "check d
++ d/schema.sql
 CREATE TABLE T (a TEXT, b INT NOT NULL);
 + d/T.csv
 a,b
 x,
+= 1
+! dbrdf: refused 24 NullRefused table 1 place 2 column 2
 ",
-        1,
-        "dbrdf: refused 24 NullRefused table 1 place 2 column 2\n",
-    ),
-    ("direct||d", "", 1, "dbrdf: refused 26 BadBase\n"),
-    ("direct|http://|d", "", 1, "dbrdf: refused 26 BadBase\n"),
-    ("direct|http://a b/|d", "", 1, "dbrdf: refused 26 BadBase\n"),
-    (
-        "show|g",
-        "+ g
+    "direct||d
+= 1
+! dbrdf: refused 26 BadBase
+",
+    "direct|http://|d
+= 1
+! dbrdf: refused 26 BadBase
+",
+    "direct|http://a b/|d
+= 1
+! dbrdf: refused 26 BadBase
+",
+    "show g
++ g
 <http://a/\\u0020> <http://a/p> \"x\" .
+= 1
+! dbrdf: refused 28 BadLine place 1
 ",
-        1,
-        "dbrdf: refused 28 BadLine place 1\n",
-    ),
-    (
-        "rows|d|q",
-        "+ d/schema.sql
+    "rows d q
++ d/schema.sql
 CREATE TABLE T (a INT);
 + d/T.csv
 a
 + q
-<FF>",
-        1,
-        "dbrdf: refused 34 BadQuery place 1\n",
-    ),
-    (
-        "rows|d|q",
-        "+ d/schema.sql
+<FF>= 1
+! dbrdf: refused 34 BadQuery place 1
+",
+    "rows d q
++ d/schema.sql
 CREATE TABLE T (a INT);
 + d/T.csv
 a
 + q
-(table",
-        1,
-        "dbrdf: refused 34 BadQuery place 7\n",
-    ),
+(table= 1
+! dbrdf: refused 34 BadQuery place 7
+",
 ];
 
-/// Words that are no command.
-pub const NO_COMMANDS: [&str; 4] = ["direct", "bench 0", "bench 01", "bench 50001"];
+/// Cases of words that are no command.
+pub const NO_COMMANDS: [&str; 4] = [
+    "direct
+= 2
+! dbrdf: usage
+",
+    "bench 0
+= 2
+! dbrdf: usage
+",
+    "bench 01
+= 2
+! dbrdf: usage
+",
+    "bench 50001
+= 2
+! dbrdf: usage
+",
+];

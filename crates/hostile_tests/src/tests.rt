@@ -1,6 +1,6 @@
 use crate::cases::{DAMAGED, DIRECT, FAULTS, FILES, MAP, NO_COMMANDS, NOTHING};
 use command_trials::{
-    Ended, Fault, ends_so, files_of, files_with, has_files, run_on, run_over, run_words, shelf_of,
+    Ended, Fault, ends_over, files_with, first_wrong, has_files, run_on, run_over, shelf_of,
     whole_iris,
 };
 use outside_dm::FileList;
@@ -12,9 +12,9 @@ fn all_files(alloc: Global) -> Option<FileList> {
     files_with(alloc, FILES, "g", graph.as_bytes())
 }
 
-fn fails_so(alloc: Global, line: &str, fault: Fault, ending: &str, stored: &str) -> bool {
+fn fails_as_told(alloc: Global, text: &str) -> bool {
     match all_files(alloc) {
-        Some(files) => ends_so(alloc, line, files, fault, ending, stored),
+        Some(files) => ends_over(alloc, files, text),
         None => false,
     }
 }
@@ -60,66 +60,24 @@ fn is_direct_cut_off(alloc: Global) -> bool {
 
 #[test]
 fn devices_that_fail(rt: HostRuntime) {
-    for (line, fault, ending, stored) in FAULTS {
-        let found = fails_so(rt.alloc(), line, fault, ending, stored);
-        assert!(rt; found, "{line}: {ending}");
+    for text in FAULTS {
+        let found = fails_as_told(rt.alloc(), text);
+        assert!(rt; found, "{text}");
     }
     let found = is_direct_cut_off(rt.alloc());
     assert!(rt; found);
 }
 
-// The words that bars part, of which one may be empty or have a space in it.
-fn words_between_bars(alloc: Global, line: &str) -> Option<Vec<String>> {
-    let mut words = Vec::new(alloc);
-    for word in line.split('|') {
-        words.push(String::from_str(alloc, word).ok()?).ok()?;
-    }
-    Some(words)
-}
-
-fn run_damaged(alloc: Global, line: &str, files: &str) -> Option<Ended> {
-    let words = words_between_bars(alloc, line)?;
-    let mut shelf = shelf_of(alloc, files_of(alloc, files)?, Fault::Nowhere)?;
-    run_words(alloc, &words, &mut shelf, Fault::Nowhere)
-}
-
-// Whether a run writes nothing but this line.
-fn tells(ended: Option<Ended>, number: u8, line: &str) -> bool {
-    match ended {
-        Some(ended) => {
-            ended.number == number
-                && ended.output.len() == 0
-                && ended.line.as_slice() == line.as_bytes()
-        }
-        None => false,
-    }
-}
-
 #[test]
 fn damaged_files(rt: HostRuntime) {
-    for (words, files, number, line) in DAMAGED {
-        let found = tells(run_damaged(rt.alloc(), words, files), number, line);
-        assert!(rt; found, "{files}{line}");
-    }
-}
-
-fn is_no_command(alloc: Global, line: &str) -> bool {
-    match files_of(alloc, FILES) {
-        Some(files) => tells(
-            run_over(alloc, line, files, Fault::Nowhere),
-            2,
-            "dbrdf: usage\n",
-        ),
-        None => false,
-    }
+    let wrong = first_wrong(rt.alloc(), "", &DAMAGED);
+    assert!(rt; wrong.len() == 0, "{wrong}");
 }
 
 #[test]
 fn words_that_are_no_command(rt: HostRuntime) {
-    for line in NO_COMMANDS {
-        let found = is_no_command(rt.alloc(), line);
-        assert!(rt; found, "{line}");
-    }
+    let wrong = first_wrong(rt.alloc(), FILES, &NO_COMMANDS);
+    assert!(rt; wrong.len() == 0, "{wrong}");
 }
 
 // Whether the line names one of the causes that a graph that is cut off may be refused for.

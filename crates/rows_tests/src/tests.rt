@@ -1,14 +1,11 @@
-use command_trials::{Fault, add_file, ends_so, files_with};
+use command_trials::{Fault, add_file, ends_as_told, ends_so, files_with, first_wrong};
 use outside_dm::FileList;
 use std::alloc::Global;
 
-// The words, the query, the folder's files, each with its name behind `+` and then its lines, and how the run ends: the number
-// of its status, the output, and the line behind `!`, if there is one.
-const ANSWERS: [(&str, &str, &str, &str); 10] = [
-    (
-        "rows d q",
-        "(diff (table L) (table R))",
-        "+ d/schema.sql
+const ANSWERS: [&str; 10] = [
+    "rows d q
++ q
+(diff (table L) (table R))+ d/schema.sql
 CREATE TABLE L (a INT, b INT); CREATE TABLE R (a INT, b INT);
 + d/L.csv
 a,b
@@ -16,16 +13,13 @@ a,b
 + d/R.csv
 a,b
 1,\\N
-",
-        "0
+= 0
 ?a\t?b
 \"1\"^^<http://www.w3.org/2001/XMLSchema#integer>\t\"2\"^^<http://www.w3.org/2001/XMLSchema#integer>
 ",
-    ),
-    (
-        "rows d q",
-        "(diff (table L) (table R))",
-        "+ d/schema.sql
+    "rows d q
++ q
+(diff (table L) (table R))+ d/schema.sql
 CREATE TABLE L (a INT, b INT); CREATE TABLE R (a INT, b INT);
 + d/L.csv
 a,b
@@ -33,15 +27,12 @@ a,b
 + d/R.csv
 a,b
 \\N,\\N
-",
-        "0
+= 0
 ?a\t?b
 ",
-    ),
-    (
-        "rows d q",
-        "(join (table L) (table R))",
-        "+ d/schema.sql
+    "rows d q
++ q
+(join (table L) (table R))+ d/schema.sql
 CREATE TABLE L (a INT, b INT); CREATE TABLE R (b INT, c INT);
 + d/L.csv
 a,b
@@ -49,15 +40,12 @@ a,b
 + d/R.csv
 b,c
 \\N,3
-",
-        "0
+= 0
 ?a\t?b\t?c
 ",
-    ),
-    (
-        "rows d q",
-        "(ne (table L) b integer \"9\")",
-        "+ d/schema.sql
+    "rows d q
++ q
+(ne (table L) b integer \"9\")+ d/schema.sql
 CREATE TABLE L (a INT, b INT); CREATE TABLE R (b INT, c INT);
 + d/L.csv
 a,b
@@ -65,15 +53,12 @@ a,b
 + d/R.csv
 b,c
 \\N,3
-",
-        "0
+= 0
 ?a\t?b
 ",
-    ),
-    (
-        "rows d q",
-        "(union (project (table People) fname) (rename (null x) x fname))",
-        "+ d/schema.sql
+    "rows d q
++ q
+(union (project (table People) fname) (rename (null x) x fname))+ d/schema.sql
 CREATE TABLE Addresses (ID INT PRIMARY KEY, city CHAR(10), state CHAR(2));
 CREATE TABLE People (ID INT PRIMARY KEY, fname CHAR(10), addr INT, FOREIGN KEY (addr) REFERENCES Addresses(ID));
 + d/Addresses.csv
@@ -83,45 +68,36 @@ ID,city,state
 ID,fname,addr
 7,Bob,18
 8,Sue,\\N
-",
-        "0
+= 0
 ?fname
 
 \"Bob\"
 \"Sue\"
 ",
-    ),
-    (
-        "rows d q",
-        "(eq (table T) a decimal \"1\")",
-        "+ d/schema.sql
+    "rows d q
++ q
+(eq (table T) a decimal \"1\")+ d/schema.sql
 CREATE TABLE T (a INT);
 + d/T.csv
 a
 1
-",
-        "0
+= 0
 ?a
 ",
-    ),
-    (
-        "rows d q",
-        "(eq (table T) a integer \"+01\")",
-        "+ d/schema.sql
+    "rows d q
++ q
+(eq (table T) a integer \"+01\")+ d/schema.sql
 CREATE TABLE T (a INT);
 + d/T.csv
 a
 1
-",
-        "0
+= 0
 ?a
 \"1\"^^<http://www.w3.org/2001/XMLSchema#integer>
 ",
-    ),
-    (
-        "rows d q empty-null",
-        "(notnull (table W) t)",
-        "+ d/schema.sql
+    "rows d q empty-null
++ q
+(notnull (table W) t)+ d/schema.sql
 CREATE TABLE W (t TEXT);
 + d/W.csv
 t
@@ -129,17 +105,14 @@ b
 a
 b
 \"\"
-",
-        "0
+= 0
 ?t
 \"a\"
 \"b\"
 ",
-    ),
-    (
-        "rows d q",
-        "(table W)",
-        "+ d/schema.sql
+    "rows d q
++ q
+(table W)+ d/schema.sql
 CREATE TABLE W (t TEXT);
 + d/W.csv
 t
@@ -147,25 +120,26 @@ b
 a
 b
 \"\"
-",
-        "0
+= 0
 ?t
 \"\"
 \"a\"
 \"b\"
 ",
-    ),
-    (
-        "rows d q",
-        "(table X)",
-        "+ d/schema.sql
+    "rows d q
++ q
+(table X)+ d/schema.sql
 CREATE TABLE T (a INT);
-",
-        "3
+= 3
 ! dbrdf: absent table 1
 ",
-    ),
 ];
+
+#[test]
+fn answers(rt: HostRuntime) {
+    let wrong = first_wrong(rt.alloc(), "", &ANSWERS);
+    assert!(rt; wrong.len() == 0, "{wrong}");
+}
 
 const TABLE: &str = "+ d/schema.sql
 CREATE TABLE T (a INT);
@@ -173,100 +147,79 @@ CREATE TABLE T (a INT);
 a
 ";
 
-// The words, the query over this table, and how the run ends.
-const REFUSALS: [(&str, &str, &str); 13] = [
-    (
-        "rows d q",
-        "(table X)",
-        "1
+const REFUSALS: [&str; 13] = [
+    "rows d q
++ q
+(table X)= 1
 ! dbrdf: refused 35 NoSuchTable
 ",
-    ),
-    (
-        "rows d q",
-        "(eq (table T) z integer \"1\")",
-        "1
+    "rows d q
++ q
+(eq (table T) z integer \"1\")= 1
 ! dbrdf: refused 36 NoSuchColumn
 ",
-    ),
-    (
-        "rows d q",
-        "(rename (join (table T) (null b)) a b)",
-        "1
+    "rows d q
++ q
+(rename (join (table T) (null b)) a b)= 1
 ! dbrdf: refused 37 NameTaken
 ",
-    ),
-    (
-        "rows d q",
-        "(union (table T) (null b))",
-        "1
+    "rows d q
++ q
+(union (table T) (null b))= 1
 ! dbrdf: refused 38 NotSameColumns
 ",
-    ),
-    (
-        "rows d q",
-        "(project (table T))",
-        "1
+    "rows d q
++ q
+(project (table T))= 1
 ! dbrdf: refused 39 EmptyProject
 ",
-    ),
-    (
-        "rows d q",
-        "(join (table T)",
-        "1
+    "rows d q
++ q
+(join (table T)= 1
 ! dbrdf: refused 34 BadQuery place 16
 ",
-    ),
-    (
-        "rows d q",
-        "(eq (table T) a integer \"x\")",
-        "1
+    "rows d q
++ q
+(eq (table T) a integer \"x\")= 1
 ! dbrdf: refused 34 BadQuery place 25
 ",
-    ),
-    (
-        "rows d q",
-        "",
-        "1
+    "rows d q
++ q
+= 1
 ! dbrdf: refused 34 BadQuery place 1
 ",
-    ),
-    (
-        "rows d none",
-        "(table T)",
-        "3
+    "rows d none
++ q
+(table T)= 3
 ! dbrdf: absent query
 ",
-    ),
-    (
-        "rows e q",
-        "(table T)",
-        "3
+    "rows e q
++ q
+(table T)= 3
 ! dbrdf: absent schema
 ",
-    ),
-    (
-        "rows d",
-        "(table T)",
-        "2
+    "rows d
++ q
+(table T)= 2
 ! dbrdf: usage
 ",
-    ),
-    (
-        "rows d q full",
-        "(table T)",
-        "2
+    "rows d q full
++ q
+(table T)= 2
 ! dbrdf: usage
 ",
-    ),
-    (
-        "rows d q empty-null more",
-        "(table T)",
-        "2
+    "rows d q empty-null more
++ q
+(table T)= 2
 ! dbrdf: usage
 ",
-    ),
 ];
+
+#[test]
+fn refusals(rt: HostRuntime) {
+    let wrong = first_wrong(rt.alloc(), TABLE, &REFUSALS);
+    assert!(rt; wrong.len() == 0, "{wrong}");
+}
 
 // A database of 20 persons.
 const PERSONS: &str = "+ d/schema.sql
@@ -347,86 +300,56 @@ n9,1
 n0,2
 ";
 
-// Whether a run over these files and the query in the file `q` ends so, where this call fails.
-fn ends(alloc: Global, line: &str, query: &str, folder: &str, fault: Fault, ending: &str) -> bool {
-    match files_with(alloc, folder, "q", query.as_bytes()) {
-        Some(files) => ends_so(alloc, line, files, fault, ending, ""),
-        None => false,
-    }
-}
-
-#[test]
-fn answers(rt: HostRuntime) {
-    for (line, query, folder, ending) in ANSWERS {
-        let found = ends(rt.alloc(), line, query, folder, Fault::Nowhere, ending);
-        assert!(rt; found, "{query}");
-    }
-}
-
-#[test]
-fn refusals(rt: HostRuntime) {
-    for (line, query, ending) in REFUSALS {
-        let found = ends(rt.alloc(), line, query, TABLE, Fault::Nowhere, ending);
-        assert!(rt; found, "{line} {query}");
-    }
-}
-
-const NO_MEMBER: &str =
-    "(diff (project (table Person) id) (rename (project (table Member) person) person id))";
-
-const NO_DEPARTMENT: &str =
-    "(diff (project (table Person) id) (project (notnull (table Person) dept) id))";
-
-// The queries over the database of 20 persons, and how `rows` ends.
-const DIFFERENCES: [(&str, &str); 2] = [
-    (NO_MEMBER, "0\n?id\n"),
-    (
-        NO_DEPARTMENT,
-        "0
+// Persons who are no members, and who are in no department.
+const DIFFERENCES: [&str; 2] = [
+    "rows d q
++ q
+(diff (project (table Person) id) (rename (project (table Member) person) person id))= 0
+?id
+",
+    "rows d q
++ q
+(diff (project (table Person) id) (project (notnull (table Person) dept) id))= 0
 ?id
 \"10\"^^<http://www.w3.org/2001/XMLSchema#integer>
 \"15\"^^<http://www.w3.org/2001/XMLSchema#integer>
 \"20\"^^<http://www.w3.org/2001/XMLSchema#integer>
 \"5\"^^<http://www.w3.org/2001/XMLSchema#integer>
 ",
-    ),
 ];
 
 #[test]
 fn differences(rt: HostRuntime) {
-    for (query, ending) in DIFFERENCES {
-        let found = ends(
-            rt.alloc(),
-            "rows d q",
-            query,
-            PERSONS,
-            Fault::Nowhere,
-            ending,
-        );
-        assert!(rt; found, "{query}");
-    }
+    let wrong = first_wrong(rt.alloc(), PERSONS, &DIFFERENCES);
+    assert!(rt; wrong.len() == 0, "{wrong}");
 }
 
 // The query is loaded behind the schema and four tables.
-const FAULTS: [(u64, &str); 3] = [
-    (6, "4\n! dbrdf: read fault query\n"),
-    (5, "4\n! dbrdf: read fault table 4\n"),
-    (1, "4\n! dbrdf: read fault schema\n"),
+const FAULTS: [&str; 3] = [
+    "rows d q
++ q
+(diff (project (table Person) id) (rename (project (table Member) person) person id))~ load 6
+= 4
+! dbrdf: read fault query
+",
+    "rows d q
++ q
+(diff (project (table Person) id) (rename (project (table Member) person) person id))~ load 5
+= 4
+! dbrdf: read fault table 4
+",
+    "rows d q
++ q
+(diff (project (table Person) id) (rename (project (table Member) person) person id))~ load 1
+= 4
+! dbrdf: read fault schema
+",
 ];
 
 #[test]
 fn faults(rt: HostRuntime) {
-    for (load, ending) in FAULTS {
-        let found = ends(
-            rt.alloc(),
-            "rows d q",
-            NO_MEMBER,
-            PERSONS,
-            Fault::Load(load),
-            ending,
-        );
-        assert!(rt; found, "{ending}");
-    }
+    let wrong = first_wrong(rt.alloc(), PERSONS, &FAULTS);
+    assert!(rt; wrong.len() == 0, "{wrong}");
 }
 
 // The text so many times.
@@ -438,31 +361,21 @@ fn repeated(alloc: Global, text: &str, times: u64) -> Option<String> {
     Some(whole)
 }
 
-const NESTS: [(u64, &str); 2] = [
-    (64, "1\n! dbrdf: refused 34 BadQuery place 577\n"),
-    (65, "1\n! dbrdf: refused 40 TooDeep place 577\n"),
-];
-
-fn nests(alloc: Global, times: u64, ending: &str) -> bool {
-    match repeated(alloc, "(notnull ", times) {
-        Some(query) => ends(
-            alloc,
-            "rows d q",
-            query.as_str(),
-            PERSONS,
-            Fault::Nowhere,
-            ending,
-        ),
-        None => false,
-    }
+// Whether `rows` of so many operators, with nothing behind them, ends so.
+fn nests(alloc: Global, times: u64, ending: &str) -> Option<bool> {
+    let query = repeated(alloc, "(notnull ", times)?;
+    let text = format!(in alloc; "rows d q\n+ q\n{query}= {ending}").ok()?;
+    Some(ends_as_told(alloc, PERSONS, text.as_str()))
 }
 
 #[test]
 fn nesting(rt: HostRuntime) {
-    for (times, ending) in NESTS {
-        let found = nests(rt.alloc(), times, ending);
-        assert!(rt; found, "{times}");
-    }
+    let at_end = "1\n! dbrdf: refused 34 BadQuery place 577\n";
+    let found = nests(rt.alloc(), 64, at_end).unwrap_or(false);
+    assert!(rt; found);
+    let too_deep = "1\n! dbrdf: refused 40 TooDeep place 577\n";
+    let found = nests(rt.alloc(), 65, too_deep).unwrap_or(false);
+    assert!(rt; found);
 }
 
 // The names of the columns of a table, each with this text between it and the next.
