@@ -6,6 +6,7 @@ pub mod Exits
 pub mod Following
 pub mod NewNames
 pub mod Loops
-pub mod Targets
+pub mod TargetLoops
 pub mod Telling
 pub mod OneAnswer
+pub mod Formed

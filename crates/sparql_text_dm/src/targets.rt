@@ -102,7 +102,7 @@ fn begins_target(token: &Placed) -> bool
 }
 
 /// The targets, of which there is one at least, and no two have one new name.
-#[tactic(auto, using(crate::proofs::Targets::targets_loop))]
+#[tactic(auto, using(crate::proofs::TargetLoops::targets_loop))]
 pub(crate) fn targets(alloc: Global, tokens: &[Placed]) -> Read<'_, Renames>
     ensures { Gives (λ x. (x.0, x.1.now)) result (all_targets_at tokens.now) }
 {
