@@ -10,7 +10,7 @@ use Rattle.sparql_tokens_dm.specs.declared.token.Keyword.TheVariants.{Bound, Sam
 use Rattle.sparql_tokens_dm.specs.declared.token.Sign.TheVariants.{OpenBrace, CloseBrace}
 use Rattle.pattern_dm.specs.declared.pattern.Condition.{Condition}
 use Rattle.pattern_dm.specs.declared.pattern.Pattern.{Pattern}
-use Rattle.sparql_text_dm.specs.Following.{Found, ended_by}
+use Rattle.sparql_text_dm.specs.Following.{Found, closed_at}
 use Rattle.sparql_text_dm.specs.Words.{Mark, is_word}
 use Rattle.sparql_text_dm.specs.Reading.{Read, bound_at, content_at, grouped_at, pattern_at, proper_at, same_term_at, sign_at, true_or_at}
 
@@ -62,12 +62,12 @@ same_term_is n ts h b s = one_condition n ts h ∙ ap (λ x. condition_by (n - 1
 pub grouped_is : (n : ℕ) (ts : List Placed) → ¬ (n ≡ 0) → starts (is_word Bound) ts ≡ false → starts (is_word SameTerm) ts ≡ false → proper_at n ts ≡ grouped_at (true_or_at (proper_at (n - 1))) ts
 grouped_is n ts h b s = one_condition n ts h ∙ ap (λ x. condition_by (n - 1) ts x (starts (is_word SameTerm) ts)) b ∙ ap (condition_by (n - 1) ts false) s
 
-pub pattern_is : (n : ℕ) (ts rest : List Placed) → ¬ (n ≡ 0) → sign_at OpenBrace ts ≡ Ok (tt, rest) → pattern_at n ts ≡ (content_at (pattern_at (n - 1)) rest >>= ended_by CloseBrace)
-pattern_is n ts rest h e = one_pattern n ts h ∙ ap (λ (a : Answer Placed Mark). a >>= λ x. content_at (pattern_at (n - 1)) x.1 >>= ended_by CloseBrace) e
+pub pattern_is : (n : ℕ) (ts rest : List Placed) → ¬ (n ≡ 0) → sign_at OpenBrace ts ≡ Ok (tt, rest) → pattern_at n ts ≡ (content_at (pattern_at (n - 1)) rest >>= closed_at CloseBrace)
+pattern_is n ts rest h e = one_pattern n ts h ∙ ap (λ (a : Answer Placed Mark). a >>= λ x. content_at (pattern_at (n - 1)) x.1 >>= closed_at CloseBrace) e
 
 pub pattern_fails : (n : ℕ) (ts : List Placed) (e : ReadError Placed) → ¬ (n ≡ 0) → Fails e (sign_at OpenBrace ts) → Fails e (pattern_at n ts)
 pattern_fails n ts e h f =
-    subst (λ (a : Answer Placed Pattern). Fails e a) (sym (one_pattern n ts h)) (fails_first e (sign_at OpenBrace ts) (λ x. content_at (pattern_at (n - 1)) x.1 >>= ended_by CloseBrace) f)
+    subst (λ (a : Answer Placed Pattern). Fails e a) (sym (one_pattern n ts h)) (fails_first e (sign_at OpenBrace ts) (λ x. content_at (pattern_at (n - 1)) x.1 >>= closed_at CloseBrace) f)
 
 -- what is given is given of the same answer
 pub gives_as : {V : Type 0} (r : Found V) (a b : Answer Placed V) → b ≡ a → Gives (λ x. (x.0, x.1.now)) r a → Gives (λ x. (x.0, x.1.now)) r b
