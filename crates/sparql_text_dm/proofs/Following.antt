@@ -10,9 +10,6 @@ use Rattle.sparql_tokens_dm.specs.declared.token.Placed.{Placed}
 use Rattle.sparql_text_dm.specs.Following.{Found, GoesOn}
 use Rattle.sparql_text_dm.proofs.Exits.{fails_first}
 
-abbrev see : {V : Type 0} → V × Bor (List Placed) → V × List Placed
-see x = (x.0, x.1.now)
-
 -- the part was read
 pub goes_on : {V W : Type 0} (part : Found V) (next : V × List Placed → Answer Placed W) (result : Found W) (x : V × Bor (List Placed)) → part ≡ Ok x
     → Gives (λ y. (y.0, y.1.now)) result (next (x.0, x.1.now)) → GoesOn part next result
@@ -21,5 +18,5 @@ goes_on {V} {W} part next result x was h read gives =
     subst (λ (a : Answer Placed V). Gives (λ y. (y.0, y.1.now)) result (a >>= next)) (sym e) h
 
 -- it wasn't
-pub goes_no_further : {V W : Type 0} (part : Found V) (next : V × List Placed → Answer Placed W) (e : ReadError Placed) → part ≡ Err e → GoesOn {V} {W} part next (Err e)
+pub goes_no_further : {V W : Type 0} (part : Found V) (next : V × List Placed → Answer Placed W) (e : ReadError Placed) → part ≡ Err e → GoesOn part next (Err e)
 goes_no_further {V} {W} part next e was read gives = fails_first e read next (subst (λ (p : Found V). Gives (λ y. (y.0, y.1.now)) p read) was gives)

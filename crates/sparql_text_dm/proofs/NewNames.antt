@@ -1,10 +1,9 @@
 -- The set of the new names of renames, as renames come in.
 use Rattle.std.proofs.Common.{◌≡◌, ◌∙◌, ℕ, Bool, true, false, cond, List, [], ◌∷◌, ◌++◌, ap, refl, sym}
-use Rattle.std.specs.Prelude.{◌||◌, bytes_eq, encode_utf8_all}
+use Rattle.std.specs.Prelude.{◌||◌, bytes_eq, encode_utf8_all, String}
 use Rattle.std.specs.Bool.{one_answer}
 use Rattle.std.specs.BTreeSet.{BTreeSet, contains_text}
 use Rattle.std.specs.Cmp.Lexicographic.{bytes_decides}
-use Rattle.std.specs.String.{String}
 use Rattle.std.proofs.lemmas.Str.{encodes_same}
 use Rattle.solutions_dm.specs.declared.selects.Rename.{Rename}
 use Rattle.solutions_dm.specs.Selects.{is_target}
@@ -36,7 +35,7 @@ or_last a true false = by a
 or_last a false c = refl
 
 -- one more rename has one more new name
-target_last : (renames : List Rename) (r : Rename) (x : List ℕ) → is_target (renames ++ r ∷ []) x ≡ cond (bytes_eq r.to x) true (is_target renames x)
+pub target_last : (renames : List Rename) (r : Rename) (x : List ℕ) → is_target (renames ++ r ∷ []) x ≡ cond (bytes_eq r.to x) true (is_target renames x)
 target_last [] r x = by (bytes_eq r.to x)
   where
     by : (b : Bool) → (b || false) ≡ cond b true false
@@ -45,7 +44,7 @@ target_last [] r x = by (bytes_eq r.to x)
 target_last (s ∷ renames) r x = ap (λ b. bytes_eq s.to x || b) (target_last renames r x) ∙ or_last (bytes_eq r.to x) (bytes_eq s.to x) (is_target renames x)
 
 pub none_new : {A : Type 0} (renames : List Rename) (names : BTreeSet (String A)) → renames ≡ [] → names.keys ≡ [] → AreNewNames renames names
-none_new renames names none empty = record { each = λ name. ? }
+none_new renames names none empty = record { each = λ name. rw (empty, none) refl }
 
 pub one_more : {A : Type 0} (renames more : List Rename) (r : Rename) (names next : BTreeSet (String A)) → AreNewNames renames names → more ≡ renames ++ r ∷ []
     → ((bytes : List ℕ) → contains_text next bytes ≡ cond (bytes_eq (encode_utf8_all r.to) bytes) true (contains_text names bytes)) → AreNewNames more next

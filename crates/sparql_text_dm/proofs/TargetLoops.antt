@@ -27,20 +27,21 @@ unfolding targets_at
 step_is n taken ts = refl
 
 -- enough steps are enough
+module _ (n m : ℕ) (same : (taken : List Rename) (ts : List Placed) → length ts < n → length ts < m → targets_at n taken ts ≡ targets_at m taken ts) where
+  more_same : (taken : List Rename) (ts : List Placed) (read : Answer Placed Rename) → target_at taken ts ≡ read → length ts < suc n → length ts < suc m → more_by n taken read ≡ more_by m taken read
+  more_same taken ts (Err fault) e ln lm = refl
+  more_same taken ts (Ok x) e ln lm =
+      let less = shorter taken ts x.1 x.0 e in
+      ap (λ (a : Answer Placed (List Rename)). a >>= λ rs. Ok (x.0 ∷ rs.0, rs.1)) (same (taken ++ x.0 ∷ []) x.1 (omega (arith, less, ln)) (omega (arith, less, lm)))
+
+  both_same : (taken : List Rename) (ts : List Placed) (b : Bool) → length ts < suc n → length ts < suc m → step_by n taken ts b ≡ step_by m taken ts b
+  both_same taken ts true ln lm = more_same taken ts (target_at taken ts) refl ln lm
+  both_same taken ts false ln lm = refl
+
 fuel_same : (n m : ℕ) (taken : List Rename) (ts : List Placed) → length ts < n → length ts < m → targets_at n taken ts ≡ targets_at m taken ts
-
-more_same : (n m : ℕ) (taken : List Rename) (ts : List Placed) (read : Answer Placed Rename) → target_at taken ts ≡ read → length ts < suc n → length ts < suc m → more_by n taken read ≡ more_by m taken read
-more_same n m taken ts (Err fault) e ln lm = refl
-more_same n m taken ts (Ok x) e ln lm =
-    let less = shorter taken ts x.1 x.0 e in
-    ap (λ (a : Answer Placed (List Rename)). a >>= λ rs. Ok (x.0 ∷ rs.0, rs.1)) (fuel_same n m (taken ++ x.0 ∷ []) x.1 (omega (arith, less, ln)) (omega (arith, less, lm)))
-
-both_same : (n m : ℕ) (taken : List Rename) (ts : List Placed) (b : Bool) → length ts < suc n → length ts < suc m → step_by n taken ts b ≡ step_by m taken ts b
-both_same n m taken ts true ln lm = more_same n m taken ts (target_at taken ts) refl ln lm
-both_same n m taken ts false ln lm = refl
 fuel_same zero m taken ts ln lm = absurd (omega (arith, ln))
 fuel_same (suc n) zero taken ts ln lm = absurd (omega (arith, lm))
-fuel_same (suc n) (suc m) taken ts ln lm = step_is n taken ts ∙ both_same n m taken ts (starts begins_target ts) ln lm ∙ sym (step_is m taken ts)
+fuel_same (suc n) (suc m) taken ts ln lm = step_is n taken ts ∙ both_same n m (fuel_same n m) taken ts (starts begins_target ts) ln lm ∙ sym (step_is m taken ts)
 
 -- what was read of the front, and what is read behind it
 pub record TargetWalk (found : List Rename) (rest : List Placed) (total : Answer Placed (List Rename)) : Type 0 where
@@ -81,16 +82,21 @@ walk_fails found rest total e walk begins h =
     (fails_first e (targets_at (suc m) found rest) _ (subst (λ (a : Answer Placed (List Rename)). Fails e a) (sym (step_is m found rest ∙ ap (step_by m found rest) begins)) (fails_first e (target_at found rest) _ h)))
 
 -- behind the first target
-pub walk_begins : (found : List Rename) (tokens rest : List Placed) (v : Rename) → target_at [] tokens ≡ Ok (v, rest) → found ≡ [] ++ v ∷ [] → TargetWalk found rest (all_targets_at tokens)
+pub walk_begins : (none found : List Rename) (tokens rest : List Placed) (v : Rename) → none ≡ [] → target_at none tokens ≡ Ok (v, rest) → found ≡ none ++ v ∷ [] → TargetWalk found rest (all_targets_at tokens)
 unfolding all_targets_at
-walk_begins found tokens rest v read made = record {
+walk_begins none found tokens rest v empty read made = record {
   so_far = λ n le.
-      ap (λ us. through (λ rs. us ++ rs) (targets_at n us rest)) made
+      ap (λ us. through (λ rs. us ++ rs) (targets_at n us rest)) (made ∙ ap (λ us. us ++ v ∷ []) empty)
       ∙ ap (through (λ rs. v ∷ rs)) (fuel_same n (suc (length rest)) (v ∷ []) rest le (omega arith))
-      ∙ sym (ap (λ (a : Answer Placed Rename). a >>= λ r. targets_at (suc (length r.1)) (r.0 ∷ []) r.1 >>= λ rs. Ok (r.0 ∷ rs.0, rs.1)) read);
+      ∙ sym (ap (λ (a : Answer Placed Rename). a >>= λ r. targets_at (suc (length r.1)) (r.0 ∷ []) r.1 >>= λ rs. Ok (r.0 ∷ rs.0, rs.1)) (ap (λ us. target_at us tokens) (sym empty) ∙ read));
 }
+
+pub first_fails : (none : List Rename) (tokens : List Placed) (e : ReadError Placed) → none ≡ [] → Fails e (target_at none tokens) → Fails e (all_targets_at tokens)
+unfolding all_targets_at
+first_fails none tokens e empty h =
+    fails_first e (target_at [] tokens) (λ r. targets_at (suc (length r.1)) (r.0 ∷ []) r.1 >>= λ rs. Ok (r.0 ∷ rs.0, rs.1)) (subst (λ (us : List Rename). Fails e (target_at us tokens)) empty h)
 
 pub walk_less : (found : List Rename) (rest after : List Placed) (v : Rename) → target_at found rest ≡ Ok (v, after) → length after < length rest
 walk_less found rest after v read = shorter found rest after v read
 
-pub ruleset targets_loop = (walk_begins, walk_on, walk_stops, walk_fails, walk_less)
+pub ruleset targets_loop = (walk_begins, first_fails, walk_on, walk_stops, walk_fails, walk_less)

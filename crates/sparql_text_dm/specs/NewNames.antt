@@ -1,7 +1,6 @@
 -- The new names of renames, in a set.
-use Rattle.std.specs.Prelude.{◌≡◌, ℕ, List, encode_utf8_all}
+use Rattle.std.specs.Prelude.{◌≡◌, ℕ, List, encode_utf8_all, String}
 use Rattle.std.specs.BTreeSet.{BTreeSet, contains_text}
-use Rattle.std.specs.String.{String}
 use Rattle.solutions_dm.specs.declared.selects.Rename.{Rename}
 use Rattle.solutions_dm.specs.Selects.{is_target}
 

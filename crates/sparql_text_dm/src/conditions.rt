@@ -1,10 +1,9 @@
 // Conditions.
 ghost use Rattle.std.specs.Prelude.{Ok};
 ghost use Rattle.grammar_dm.specs.Exits.{Gives};
-ghost use Rattle.grammar_dm.specs.Reading.{◌>>=◌};
-ghost use Rattle.sparql_text_dm.specs.Following.{GoesOn};
+ghost use Rattle.sparql_text_dm.specs.Following.{GoesOn, closed_at};
 ghost use Rattle.sparql_text_dm.specs.Grammar.{connected};
-ghost use Rattle.sparql_text_dm.specs.Reading.{all_proper_at, bound_at, condition_at, connected_at, filter_at, grouped_at, join_condition_at, negation_at, proper_at, same_term_at, sign_at, terms_at, true_at, true_or_at};
+ghost use Rattle.sparql_text_dm.specs.Reading.{all_proper_at, bound_at, condition_at, connected_at, filter_at, grouped_at, join_condition_at, negation_at, proper_at, same_term_at, terms_at, true_at, true_or_at};
 
 use crate::connective::{Connective, next_connective};
 use crate::makers;
@@ -57,7 +56,7 @@ fn truth(alloc: Global, tokens: &[Placed]) -> Read<'_, Boxed<Condition>>
 }
 
 fn negated(alloc: Global, part: Read<'_, Boxed<Condition>>) -> Read<'_, Boxed<Condition>>
-    ensures { GoesOn part (λ f. Ok (Condition.Not f.0, f.1)) result }
+    ensures { GoesOn part.entry (λ f. Ok (Condition.Not f.0, f.1)) result }
 {
     let (part, rest) = part?;
     Ok((makers::not(alloc, part)?, rest))
@@ -70,7 +69,7 @@ fn joined(
     left: Boxed<Condition>,
     right: Read<'_, Boxed<Condition>>,
 ) -> Read<'_, Boxed<Condition>>
-    ensures { GoesOn right (λ g. Ok (connected mark left g.0, g.1)) result }
+    ensures { GoesOn right.entry (λ g. Ok (connected mark left g.0, g.1)) result }
 {
     let (right, rest) = right?;
     Ok((makers::connected(alloc, mark, left, right)?, rest))
@@ -78,7 +77,7 @@ fn joined(
 
 // What was read, where a closing parenthesis stands behind it.
 fn closed(content: Read<'_, Boxed<Condition>>) -> Read<'_, Boxed<Condition>>
-    ensures { GoesOn content (λ f. sign_at Sign.CloseParenthesis f.1 >>= λ b. Ok (f.0, b.1)) result }
+    ensures { GoesOn content.entry (closed_at Sign.CloseParenthesis) result }
 {
     let (found, rest) = content?;
     let rest = sign(rest, Sign::CloseParenthesis)?;

@@ -1,9 +1,8 @@
 // Patterns.
 ghost use Rattle.std.specs.Prelude.{Ok};
 ghost use Rattle.grammar_dm.specs.Exits.{Gives};
-ghost use Rattle.grammar_dm.specs.Reading.{◌>>=◌};
-ghost use Rattle.sparql_text_dm.specs.Following.{GoesOn};
-ghost use Rattle.sparql_text_dm.specs.Reading.{and_pattern_at, content_at, filtered_at, left_join_at, minus_at, operation_at, operator_at, optional_part_at, pattern_at, select_at, sign_at, triple_at, union_at};
+ghost use Rattle.sparql_text_dm.specs.Following.{GoesOn, empty_at, closed_at};
+ghost use Rattle.sparql_text_dm.specs.Reading.{and_pattern_at, content_at, filtered_at, left_join_at, minus_at, operation_at, operator_at, optional_part_at, pattern_at, select_at, triple_at, union_at};
 ghost use Rattle.sparql_text_dm.specs.Pairs.{paired};
 
 use crate::conditions::{filter, join_condition};
@@ -43,7 +42,7 @@ fn selected(
     renames: Renames,
     part: Read<'_, Boxed<Pattern>>,
 ) -> Read<'_, Boxed<Pattern>>
-    ensures { GoesOn part (λ p. Ok (Pattern.Select p.0 renames, p.1)) result }
+    ensures { GoesOn part.entry (λ p. Ok (Pattern.Select p.0 renames, p.1)) result }
 {
     let (part, rest) = part?;
     Ok((makers::select(alloc, part, renames)?, rest))
@@ -99,7 +98,7 @@ fn paired(
     left: Boxed<Pattern>,
     right: Read<'_, Boxed<Pattern>>,
 ) -> Read<'_, Boxed<Pattern>>
-    ensures { GoesOn right (λ q. Ok (paired pairing left q.0, q.1)) result }
+    ensures { GoesOn right.entry (λ q. Ok (paired pairing left q.0, q.1)) result }
 {
     let (right, rest) = right?;
     Ok((makers::paired(alloc, pairing, left, right)?, rest))
@@ -168,7 +167,7 @@ fn operation(alloc: Global, levels: usize, tokens: &[Placed]) -> Read<'_, Boxed<
 
 // Nothing.
 fn empty(alloc: Global, tokens: &[Placed]) -> Read<'_, Boxed<Pattern>>
-    ensures { Gives (λ x. (x.0, x.1.now)) result (Ok (Pattern.Empty, tokens.now)) }
+    ensures { Gives (λ x. (x.0, x.1.now)) result (empty_at tokens.now) }
 {
     Ok((makers::empty(alloc)?, tokens))
 }
@@ -192,7 +191,7 @@ fn content(alloc: Global, levels: usize, tokens: &[Placed]) -> Read<'_, Boxed<Pa
 
 // What was read, where a closing brace stands behind it.
 fn closed(content: Read<'_, Boxed<Pattern>>) -> Read<'_, Boxed<Pattern>>
-    ensures { GoesOn content (λ p. sign_at Sign.CloseBrace p.1 >>= λ b. Ok (p.0, b.1)) result }
+    ensures { GoesOn content.entry (closed_at Sign.CloseBrace) result }
 {
     let (found, rest) = content?;
     let rest = sign(rest, Sign::CloseBrace)?;

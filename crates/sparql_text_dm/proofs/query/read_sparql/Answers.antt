@@ -1,5 +1,6 @@
 use Rattle.sparql_text_dm.proofs.SomeAnswer.{some_answer}
 use Rattle.sparql_text_dm.proofs.OneAnswer.{one_answer}
+use Rattle.sparql_text_dm.proofs.Formed.{is_formed}
 use Rattle.sparql_text_dm.proofs.query.read_sparql.Goals as goal
 
 pub returns-clause-one : goal.returns-clause-one
@@ -7,3 +8,6 @@ returns-clause-one c = one_answer c.args.bytes.now
 
 pub returns-clause-some : goal.returns-clause-some
 returns-clause-some c = some_answer c.args.bytes.now
+
+pub returns-clause-formed : goal.returns-clause-formed
+returns-clause-formed c = is_formed c.args.bytes.now c.read_text.result c.read_text.ensures
