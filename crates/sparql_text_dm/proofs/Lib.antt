@@ -1,0 +1,9 @@
+pub mod Firsts
+pub mod ConditionReaders
+pub mod PatternReaders
+pub mod Depths
+pub mod Exits
+pub mod Loops
+pub mod Targets
+pub mod Telling
+pub mod OneAnswer

@@ -1,0 +1,6 @@
+pub mod Words
+pub mod Grammar
+pub mod Reading
+pub mod Depth
+pub mod Answer
+pub mod Telling

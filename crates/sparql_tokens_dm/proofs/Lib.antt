@@ -1,0 +1,5 @@
+pub mod Keywords
+pub mod Variables
+pub mod Scans
+pub mod Lexing
+pub mod Unique
