@@ -3,3 +3,5 @@ pub mod Variables
 pub mod Scans
 pub mod Lexing
 pub mod Unique
+pub mod WrittenTerms
+pub mod Pieces
