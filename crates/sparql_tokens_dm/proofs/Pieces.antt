@@ -1,23 +1,26 @@
 -- Bytes in front of a text whose tokens are known, and the tokens that they add.
-use Rattle.std.proofs.Common.{◌≡◌, ◌≢◌, ◌∙◌, ℕ, ◌+◌, ◌-◌, ◌<◌, List, [], ◌∷◌, ◌++◌, length, map, Bool, true, false, refl, sym, ap, subst, arith, cond, append_assoc, encode_utf8_all, chars, IsUtf8, encode_utf8}
+use Rattle.std.proofs.Common.{◌≡◌, ◌≢◌, ◌∙◌, ℕ, ◌+◌, ◌-◌, ◌<◌, List, [], ◌∷◌, ◌++◌, length, map, Bool, true, false, refl, sym, ap, subst, arith, cond, append_assoc, encode_utf8_all, chars, IsUtf8, IsAscii}
 use Rattle.std.specs.Prelude.{◌==◌, ◌||◌, ◌&&◌, nat_lt, codes}
 use Rattle.std.specs.List.{list_all}
-use Rattle.std.proofs.lemmas.Bool.{cases_Bool, eqb-true}
-use Rattle.std.proofs.lemmas.Str.{encode_ascii, encodes-chars, scalars-chars, IsUtf8-append, IsUtf8-nil, chars-nil}
+use Rattle.std.proofs.lemmas.Bool.{cases_Bool, eqb-true, ltb-true}
+use Rattle.std.proofs.lemmas.Str.Ascii.{IsAscii-nil}
+use Rattle.std.proofs.lemmas.Str.{encode_ascii, encodes-chars, encodes-IsAscii, scalars-chars, IsUtf8-append, IsUtf8-from_ascii, IsUtf8-nil, chars-append, chars-IsAscii, chars-nil}
 use Rattle.std.proofs.Common.{inl, inr}
 use Rattle.grammar_dm.specs.Reading.{starts}
-use Rattle.names_dm.specs.Characters.{is_ascii_letter}
+use Rattle.names_dm.specs.Characters.{is_ascii, is_ascii_letter}
 use Rattle.names_dm.specs.Literals.{LiteralValue}
 use Rattle.names_dm.specs.Terminals.{is_variable, is_variable_character}
 use Rattle.names_dm.specs.declared.term.Term.{Term}
 use Rattle.names_dm.specs.declared.term.Term.TheVariants as terms
-use Rattle.names_dm.proofs.SafeForms.{marks_ascii}
-use Rattle.names_dm.proofs.Utf8.{chars-encode, chars-encodes_any}
+use Rattle.names_dm.proofs.Ascii.{ascii_cons}
+use Rattle.names_dm.proofs.Utf8.{chars-encodes_any}
 use Rattle.ntriples_reader_dm.specs.Characters.{is_blank}
 use Rattle.ntriples_reader_dm.specs.Lawful.{IsLawfulTerm}
 use Rattle.ntriples_reader_dm.specs.Reading.{begins, skip}
 use Rattle.ntriples_reader_dm.specs.WrittenLine.{term_chars}
 use Rattle.ntriples_reader_dm.proofs.ReadBack.{term_bytes, term_scalars}
+use Rattle.ntriples_reader_dm.proofs.Exact.{both_of}
+use Rattle.ntriples_dm.specs.Written.{term_text}
 use Rattle.ddl_tokens_dm.specs.Tokens.{IsRun}
 use Rattle.sparql_tokens_dm.specs.Characters.{is_space, sign_text, spelling}
 use Rattle.sparql_tokens_dm.specs.Scanning.{Lexeme, lexeme, sign_lexeme}
@@ -32,7 +35,7 @@ use Rattle.sparql_tokens_dm.specs.declared.token.Token.{Token}
 use Rattle.sparql_tokens_dm.specs.declared.token.Token.TheVariants.{Sign, Word, Var, Iri, Literal}
 use Rattle.sparql_tokens_dm.specs.declared.token.Placed.{Placed}
 use Rattle.sparql_tokens_dm.proofs.Scans.{space_found, token_behind, token_found}
-use Rattle.sparql_tokens_dm.proofs.WrittenTerms.{IsBehindTerm, in_name, iri_longest, literal_longest}
+use Rattle.sparql_tokens_dm.proofs.WrittenTerms.{IsBehindTerm, in_name, iri_longest, literal_longest, no_name, or_parts}
 
 abbrev pub tokens_in : List Placed → List Token
 tokens_in found = map (λ (t : Placed). t.token) found
@@ -100,6 +103,13 @@ module _ (total : ℕ) (n : ℕ) (bad : IsNoFirst n) (solid : is_space n ≡ fal
     | inr other ↦ ap (begins n) (skip_blank s.0 after false other) ∙ space_apart n solid s.0 s.2
   ]
   no_first (token {ts = ts} {after = after} {token = t} s h) e = token_first ts after t s
+
+ascii_bytes : (bs : List ℕ) → list_all is_ascii bs ≡ true → IsAscii bs
+ascii_bytes [] e = IsAscii-nil
+ascii_bytes (c ∷ cs) e = let both = both_of (is_ascii c) (list_all is_ascii cs) e in ascii_cons c cs (ltb-true c 128 both.0) (ascii_bytes cs both.1)
+
+small_name : (c : ℕ) → is_variable_character c ≡ true → is_ascii c ≡ true
+small_name c e = grind (arith)
 
 -- ---- a text with its tokens
 
@@ -170,14 +180,126 @@ module _ (total : ℕ) where
 
   -- ---- single ones
 
-  one_utf8 : (c : ℕ) → nat_lt c 128 ≡ true → IsUtf8 (c ∷ [])
-  one_utf8 c e = (c ∷ [], scalar_one, single)
-    where
-      below : c < 128
-      below = grind (arith)
+  ascii_in_front : (bs rest : List ℕ) → list_all is_ascii bs ≡ true → IsUtf8 rest → IsUtf8 (bs ++ rest) × (chars (bs ++ rest) ≡ bs ++ chars rest)
+  ascii_in_front bs rest e u =
+      let plain = ascii_bytes bs e in
+      let whole : IsUtf8 bs = IsUtf8-from_ascii bs plain in
+      (IsUtf8-append bs rest whole u, chars-append bs rest whole ∙ ap (λ cs. cs ++ chars rest) (chars-IsAscii bs plain))
 
-      single : encode_utf8_all (c ∷ []) ≡ c ∷ []
-      single = ap (λ bs. bs ++ []) (encode_ascii c below)
+  abbrev placed : Token → List ℕ → Placed
+  placed t ts = record { token = t; place = total - length (encode_utf8_all ts) + 1 }
 
-      scalar_one : _
-      scalar_one = grind (arith)
+  pub space_written : Free (codes " ") (λ more. more)
+  space_written rest more ok e =
+      let front = ascii_in_front (32 ∷ []) rest refl e.utf8 in
+      record {
+        utf8 = front.0;
+        found = e.found;
+        consists = subst (λ (cs : List ℕ). Consists total cs e.found []) (sym front.1) (between (32, refl, refl) e.consists);
+        are = e.are;
+      }
+
+  token_in_front : (t : Token) (bs rest : List ℕ) (more : List Token) → IsUtf8 (bs ++ rest) → (ts : List ℕ) → chars (bs ++ rest) ≡ ts → StandsToken t ts (chars rest) → Ending total rest more → Ending total (bs ++ rest) (t ∷ more)
+  token_in_front t bs rest more u ts is stands e = record {
+    utf8 = u;
+    found = placed t ts ∷ e.found;
+    consists = subst (λ (cs : List ℕ). Consists total cs (placed t ts ∷ e.found) []) (sym is) (token stands e.consists);
+    are = ap (λ us. t ∷ us) e.are;
+  }
+
+  sign_ascii : (s : Mark) → list_all is_ascii (sign_text s) ≡ true
+  sign_ascii signs.OpenBrace = refl
+  sign_ascii signs.CloseBrace = refl
+  sign_ascii signs.OpenParenthesis = refl
+  sign_ascii signs.CloseParenthesis = refl
+  sign_ascii signs.Dot = refl
+  sign_ascii signs.Comma = refl
+  sign_ascii signs.Not = refl
+  sign_ascii signs.And = refl
+  sign_ascii signs.Or = refl
+
+  pub sign_written : (s : Mark) → Free (sign_text s) (λ more. Sign s ∷ more)
+  sign_written s rest more ok e =
+      let front = ascii_in_front (sign_text s) rest (sign_ascii s) e.utf8 in
+      token_in_front (Sign s) (sign_text s) rest more front.0 (sign_text s ++ chars rest) front.1 refl e
+
+  word_ascii : (w : Keyword) → list_all is_ascii (spelling w) ≡ true
+  word_ascii keywords.Select = refl
+  word_ascii keywords.Distinct = refl
+  word_ascii keywords.Where = refl
+  word_ascii keywords.As = refl
+  word_ascii keywords.Union = refl
+  word_ascii keywords.Minus = refl
+  word_ascii keywords.Optional = refl
+  word_ascii keywords.Filter = refl
+  word_ascii keywords.True = refl
+  word_ascii keywords.Bound = refl
+  word_ascii keywords.SameTerm = refl
+
+  word_letters : (w : Keyword) → list_all is_ascii_letter (spelling w) ≡ true
+  word_letters keywords.Select = refl
+  word_letters keywords.Distinct = refl
+  word_letters keywords.Where = refl
+  word_letters keywords.As = refl
+  word_letters keywords.Union = refl
+  word_letters keywords.Minus = refl
+  word_letters keywords.Optional = refl
+  word_letters keywords.Filter = refl
+  word_letters keywords.True = refl
+  word_letters keywords.Bound = refl
+  word_letters keywords.SameTerm = refl
+
+  starts_less : (f g : ℕ → Bool) → ((c : ℕ) → f c ≡ false → g c ≡ false) → (ts : List ℕ) → starts f ts ≡ false → starts g ts ≡ false
+  starts_less f g less [] e = refl
+  starts_less f g less (c ∷ ts) e = less c e
+
+  no_letter : (c : ℕ) → in_name c ≡ false → is_ascii_letter c ≡ false
+  no_letter c e = (no_name c e).0
+
+  no_variable : (c : ℕ) → in_name c ≡ false → is_variable_character c ≡ false
+  no_variable c e = (or_parts (is_variable_character c) (c == 45) e).0
+
+  pub word_written : (w : Keyword) → Ends (spelling w) (λ more. Word w ∷ more)
+  word_written w rest more ok e =
+      let front = ascii_in_front (spelling w) rest (word_ascii w) e.utf8 in
+      token_in_front (Word w) (spelling w) rest more front.0 (spelling w ++ chars rest) front.1 (record { whole = refl; pass = word_letters w; ends = starts_less in_name is_ascii_letter no_letter (chars rest) (ends_chars rest e.utf8 ok) }) e
+
+  -- ---- variables
+
+  name_ascii : (x : List ℕ) → list_all is_variable_character x ≡ true → list_all is_ascii x ≡ true
+  name_ascii [] e = refl
+  name_ascii (c ∷ cs) e =
+      let both = both_of (is_variable_character c) (list_all is_variable_character cs) e in
+      rw (small_name c both.0, name_ascii cs both.1) refl
+
+  name_parts : (x : List ℕ) → is_variable x ≡ true → (x ≢ []) × (list_all is_variable_character x ≡ true)
+  unfolding is_variable
+  name_parts [] e = absurd cc
+  name_parts (c ∷ cs) e = ((λ k. absurd cc), e)
+
+  pub variable_written : (x : List ℕ) → is_variable x ≡ true → Ends (63 ∷ encode_utf8_all x) (λ more. Var x ∷ more)
+  variable_written x is rest more ok e =
+      let parts = name_parts x is in
+      let ascii = name_ascii x parts.1 in
+      let same : encode_utf8_all x ≡ x = encodes-IsAscii x (ascii_bytes x ascii) in
+      let front = ascii_in_front (63 ∷ x) rest ascii e.utf8 in
+      subst (λ (bs : List ℕ). Ending total ((63 ∷ bs) ++ rest) (Var x ∷ more)) (sym same)
+      (token_in_front (Var x) (63 ∷ x) rest more front.0 (63 ∷ (x ++ chars rest)) front.1
+      (parts.0, (x ++ chars rest, refl, record { whole = refl; pass = parts.1; ends = starts_less in_name is_variable_character no_variable (chars rest) (ends_chars rest e.utf8 ok) })) e)
+
+  -- ---- terms
+
+  term_front : (t : Term) (rest : List ℕ) → IsLawfulTerm t → IsUtf8 rest → IsUtf8 (term_text t ++ rest) × (chars (term_text t ++ rest) ≡ term_chars t (chars rest))
+  term_front t rest h u =
+      let bytes : encode_utf8_all (term_chars t (chars rest)) ≡ term_text t ++ rest = term_bytes t (chars rest) ∙ ap (λ bs. term_text t ++ bs) (encodes-chars rest u) in
+      ((term_chars t (chars rest), (term_scalars t (chars rest) h (scalars-chars rest u), bytes)), ap chars (sym bytes) ∙ chars-encodes_any (term_chars t (chars rest)))
+
+  pub iri_written : (iri : List ℕ) → IsLawfulTerm (terms.Iri iri) → Ends (term_text (terms.Iri iri)) (λ more. Iri iri ∷ more)
+  iri_written iri h rest more ok e =
+      let front = term_front (terms.Iri iri) rest h e.utf8 in
+      token_in_front (Iri iri) (term_text (terms.Iri iri)) rest more front.0 (term_chars (terms.Iri iri) (chars rest)) front.1 (iri_longest iri (chars rest) h.0) e
+
+  pub literal_written : (l : LiteralValue) → IsLawfulTerm (terms.Literal l) → Ends (term_text (terms.Literal l)) (λ more. Literal l ∷ more)
+  literal_written l h rest more ok e =
+      let front = term_front (terms.Literal l) rest h e.utf8 in
+      token_in_front (Literal l) (term_text (terms.Literal l)) rest more front.0 (term_chars (terms.Literal l) (chars rest)) front.1 (literal_longest l (chars rest) h (behind_term total rest more ok e)) e

@@ -30,14 +30,14 @@ pub record IsBehindTerm (rest : List ℕ) : Type 0 where
   pub datatype : begins 94 (skip rest) ≡ false
   pub tag : begins 64 (skip rest) ≡ false
 
-or_parts : (a b : Bool) → (a || b) ≡ false → (a ≡ false) × (b ≡ false)
+pub or_parts : (a b : Bool) → (a || b) ≡ false → (a ≡ false) × (b ≡ false)
 or_parts true b e = absurd cc
 or_parts false b e = (refl, e)
 
 abbrev pub IsNoName : ℕ → Type 0
 IsNoName c = (is_ascii_letter c ≡ false) × (is_letter_or_digit c ≡ false) × ((c == 45) ≡ false)
 
-no_name : (c : ℕ) → in_name c ≡ false → IsNoName c
+pub no_name : (c : ℕ) → in_name c ≡ false → IsNoName c
 no_name c e =
     let both = or_parts (is_variable_character c) (c == 45) e in
     let letter = or_parts (is_letter_or_digit c) (c == 95) both.0 in
