@@ -4,3 +4,4 @@ pub mod Reading
 pub mod Depth
 pub mod Answer
 pub mod Telling
+pub mod Written
