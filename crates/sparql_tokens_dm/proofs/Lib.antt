@@ -5,3 +5,4 @@ pub mod Lexing
 pub mod Unique
 pub mod WrittenTerms
 pub mod Pieces
+pub mod Phrases

@@ -148,8 +148,11 @@ behind_term total rest more ends h = record {
 -- ---- pieces
 
 -- Bytes that stand for tokens in front of any text that follows them rightly. The tokens are told by what they make of those behind.
-abbrev pub Writes : ℕ → (List ℕ → Type 0) → List ℕ → (List Token → List Token) → Type 0
-Writes total Follows bytes adds = (rest : List ℕ) (more : List Token) → Follows rest → Ending total rest more → Ending total (bytes ++ rest) (adds more)
+abbrev On : ℕ → (List ℕ → Type 0) → List ℕ → (List Token → List Token) → Type 0
+On total Follows bytes adds = (rest : List ℕ) (more : List Token) → Follows rest → Ending total rest more → Ending total (bytes ++ rest) (adds more)
+
+pub record Writes (total : ℕ) (Follows : List ℕ → Type 0) (bytes : List ℕ) (adds : List Token → List Token) : Type 0 where
+  pub on : (rest : List ℕ) (more : List Token) → Follows rest → Ending total rest more → Ending total (bytes ++ rest) (adds more)
 
 abbrev pub Anything : List ℕ → Type 0
 Anything rest = Unit {0}
@@ -164,19 +167,22 @@ module _ (total : ℕ) where
   pub nothing_written : Ending total [] []
   nothing_written = record { utf8 = IsUtf8-nil; found = []; consists = subst (λ (cs : List ℕ). Consists total cs [] []) (sym chars-nil) nothing; are = refl }
 
-  pub written_then : (F G : List ℕ → Type 0) (a b : List ℕ) (f g : List Token → List Token) → Writes total F a f → Writes total G b g → ((rest : List ℕ) → G rest → F (b ++ rest)) → Writes total G (a ++ b) (λ more. f (g more))
-  written_then F G a b f g h k follows rest more ok e =
-      subst (λ (bs : List ℕ). Ending total bs (f (g more))) (sym (append_assoc a b rest)) (h (b ++ rest) (g more) (follows rest ok) (k rest more ok e))
+  written_then : (F G : List ℕ → Type 0) (a b : List ℕ) (f g : List Token → List Token) → Writes total F a f → Writes total G b g → ((rest : List ℕ) → G rest → F (b ++ rest)) → Writes total G (a ++ b) (λ more. f (g more))
+  written_then F G a b f g h k follows = record {
+    on = λ rest more ok e. subst (λ (bs : List ℕ). Ending total bs (f (g more))) (sym (append_assoc a b rest)) (h.on (b ++ rest) (g more) (follows rest ok) (k.on rest more ok e));
+  }
 
-  -- where what comes first needs nothing
-  pub free_then : (G : List ℕ → Type 0) (a b : List ℕ) (f g : List Token → List Token) → Free a f → Writes total G b g → Writes total G (a ++ b) (λ more. f (g more))
-  free_then G a b f g h k = written_then Anything G a b f g h k (λ rest ok. tt)
+  pub free_free : {a b : List ℕ} {f g : List Token → List Token} → Free a f → Free b g → Free (a ++ b) (λ more. f (g more))
+  free_free {a} {b} {f} {g} h k = written_then Anything Anything a b f g h k (λ rest ok. tt)
 
-  pub free_ends : (a : List ℕ) (f : List Token → List Token) → Free a f → Ends a f
-  free_ends a f h rest more ok e = h rest more tt e
+  pub free_ends : {a b : List ℕ} {f g : List Token → List Token} → Free a f → Ends b g → Ends (a ++ b) (λ more. f (g more))
+  free_ends {a} {b} {f} {g} h k = written_then Anything EndsName a b f g h k (λ rest ok. tt)
 
-  pub written_as : (F : List ℕ → Type 0) (a b : List ℕ) (f : List Token → List Token) → a ≡ b → Writes total F a f → Writes total F b f
-  written_as F a b f e h = subst (λ (bs : List ℕ). Writes total F bs f) e h
+  pub ends_free : {a b : List ℕ} {f g : List Token → List Token} → Ends a f → Free b g → ((rest : List ℕ) → EndsName (b ++ rest)) → Free (a ++ b) (λ more. f (g more))
+  ends_free {a} {b} {f} {g} h k follows = written_then EndsName Anything a b f g h k (λ rest ok. follows rest)
+
+  pub is_ends : {a : List ℕ} {f : List Token → List Token} → Free a f → Ends a f
+  is_ends h = record { on = λ rest more ok e. h.on rest more tt e }
 
   -- ---- single ones
 
@@ -189,8 +195,8 @@ module _ (total : ℕ) where
   abbrev placed : Token → List ℕ → Placed
   placed t ts = record { token = t; place = total - length (encode_utf8_all ts) + 1 }
 
-  pub space_written : Free (codes " ") (λ more. more)
-  space_written rest more ok e =
+  space_on : On total Anything (codes " ") (λ more. more)
+  space_on rest more ok e =
       let front = ascii_in_front (32 ∷ []) rest refl e.utf8 in
       record {
         utf8 = front.0;
@@ -198,6 +204,9 @@ module _ (total : ℕ) where
         consists = subst (λ (cs : List ℕ). Consists total cs e.found []) (sym front.1) (between (32, refl, refl) e.consists);
         are = e.are;
       }
+
+  pub space_written : Free (codes " ") (λ more. more)
+  space_written = record { on = space_on }
 
   token_in_front : (t : Token) (bs rest : List ℕ) (more : List Token) → IsUtf8 (bs ++ rest) → (ts : List ℕ) → chars (bs ++ rest) ≡ ts → StandsToken t ts (chars rest) → Ending total rest more → Ending total (bs ++ rest) (t ∷ more)
   token_in_front t bs rest more u ts is stands e = record {
@@ -218,10 +227,13 @@ module _ (total : ℕ) where
   sign_ascii signs.And = refl
   sign_ascii signs.Or = refl
 
-  pub sign_written : (s : Mark) → Free (sign_text s) (λ more. Sign s ∷ more)
-  sign_written s rest more ok e =
+  sign_on : (s : Mark) → On total Anything (sign_text s) (λ more. Sign s ∷ more)
+  sign_on s rest more ok e =
       let front = ascii_in_front (sign_text s) rest (sign_ascii s) e.utf8 in
       token_in_front (Sign s) (sign_text s) rest more front.0 (sign_text s ++ chars rest) front.1 refl e
+
+  pub sign_written : (s : Mark) → Free (sign_text s) (λ more. Sign s ∷ more)
+  sign_written s = record { on = sign_on s }
 
   word_ascii : (w : Keyword) → list_all is_ascii (spelling w) ≡ true
   word_ascii keywords.Select = refl
@@ -259,10 +271,13 @@ module _ (total : ℕ) where
   no_variable : (c : ℕ) → in_name c ≡ false → is_variable_character c ≡ false
   no_variable c e = (or_parts (is_variable_character c) (c == 45) e).0
 
-  pub word_written : (w : Keyword) → Ends (spelling w) (λ more. Word w ∷ more)
-  word_written w rest more ok e =
+  word_on : (w : Keyword) → On total EndsName (spelling w) (λ more. Word w ∷ more)
+  word_on w rest more ok e =
       let front = ascii_in_front (spelling w) rest (word_ascii w) e.utf8 in
       token_in_front (Word w) (spelling w) rest more front.0 (spelling w ++ chars rest) front.1 (record { whole = refl; pass = word_letters w; ends = starts_less in_name is_ascii_letter no_letter (chars rest) (ends_chars rest e.utf8 ok) }) e
+
+  pub word_written : (w : Keyword) → Ends (spelling w) (λ more. Word w ∷ more)
+  word_written w = record { on = word_on w }
 
   -- ---- variables
 
@@ -277,8 +292,8 @@ module _ (total : ℕ) where
   name_parts [] e = absurd cc
   name_parts (c ∷ cs) e = ((λ k. absurd cc), e)
 
-  pub variable_written : (x : List ℕ) → is_variable x ≡ true → Ends (63 ∷ encode_utf8_all x) (λ more. Var x ∷ more)
-  variable_written x is rest more ok e =
+  variable_on : (x : List ℕ) → is_variable x ≡ true → On total EndsName (63 ∷ encode_utf8_all x) (λ more. Var x ∷ more)
+  variable_on x is rest more ok e =
       let parts = name_parts x is in
       let ascii = name_ascii x parts.1 in
       let same : encode_utf8_all x ≡ x = encodes-IsAscii x (ascii_bytes x ascii) in
@@ -287,6 +302,9 @@ module _ (total : ℕ) where
       (token_in_front (Var x) (63 ∷ x) rest more front.0 (63 ∷ (x ++ chars rest)) front.1
       (parts.0, (x ++ chars rest, refl, record { whole = refl; pass = parts.1; ends = starts_less in_name is_variable_character no_variable (chars rest) (ends_chars rest e.utf8 ok) })) e)
 
+  pub variable_written : (x : List ℕ) → is_variable x ≡ true → Ends (63 ∷ encode_utf8_all x) (λ more. Var x ∷ more)
+  variable_written x is = record { on = variable_on x is }
+
   -- ---- terms
 
   term_front : (t : Term) (rest : List ℕ) → IsLawfulTerm t → IsUtf8 rest → IsUtf8 (term_text t ++ rest) × (chars (term_text t ++ rest) ≡ term_chars t (chars rest))
@@ -294,12 +312,18 @@ module _ (total : ℕ) where
       let bytes : encode_utf8_all (term_chars t (chars rest)) ≡ term_text t ++ rest = term_bytes t (chars rest) ∙ ap (λ bs. term_text t ++ bs) (encodes-chars rest u) in
       ((term_chars t (chars rest), (term_scalars t (chars rest) h (scalars-chars rest u), bytes)), ap chars (sym bytes) ∙ chars-encodes_any (term_chars t (chars rest)))
 
-  pub iri_written : (iri : List ℕ) → IsLawfulTerm (terms.Iri iri) → Ends (term_text (terms.Iri iri)) (λ more. Iri iri ∷ more)
-  iri_written iri h rest more ok e =
+  iri_on : (iri : List ℕ) → IsLawfulTerm (terms.Iri iri) → On total EndsName (term_text (terms.Iri iri)) (λ more. Iri iri ∷ more)
+  iri_on iri h rest more ok e =
       let front = term_front (terms.Iri iri) rest h e.utf8 in
       token_in_front (Iri iri) (term_text (terms.Iri iri)) rest more front.0 (term_chars (terms.Iri iri) (chars rest)) front.1 (iri_longest iri (chars rest) h.0) e
 
-  pub literal_written : (l : LiteralValue) → IsLawfulTerm (terms.Literal l) → Ends (term_text (terms.Literal l)) (λ more. Literal l ∷ more)
-  literal_written l h rest more ok e =
+  pub iri_written : (iri : List ℕ) → IsLawfulTerm (terms.Iri iri) → Ends (term_text (terms.Iri iri)) (λ more. Iri iri ∷ more)
+  iri_written iri h = record { on = iri_on iri h }
+
+  literal_on : (l : LiteralValue) → IsLawfulTerm (terms.Literal l) → On total EndsName (term_text (terms.Literal l)) (λ more. Literal l ∷ more)
+  literal_on l h rest more ok e =
       let front = term_front (terms.Literal l) rest h e.utf8 in
       token_in_front (Literal l) (term_text (terms.Literal l)) rest more front.0 (term_chars (terms.Literal l) (chars rest)) front.1 (literal_longest l (chars rest) h (behind_term total rest more ok e)) e
+
+  pub literal_written : (l : LiteralValue) → IsLawfulTerm (terms.Literal l) → Ends (term_text (terms.Literal l)) (λ more. Literal l ∷ more)
+  literal_written l h = record { on = literal_on l h }
