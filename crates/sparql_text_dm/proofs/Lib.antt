@@ -7,3 +7,4 @@ pub mod Loops
 pub mod Targets
 pub mod Telling
 pub mod OneAnswer
+pub mod WrittenTokens

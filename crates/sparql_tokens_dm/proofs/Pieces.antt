@@ -181,6 +181,12 @@ module _ (total : ℕ) where
   pub ends_free : {a b : List ℕ} {f g : List Token → List Token} → Ends a f → Free b g → ((rest : List ℕ) → EndsName (b ++ rest)) → Free (a ++ b) (λ more. f (g more))
   ends_free {a} {b} {f} {g} h k follows = written_then EndsName Anything a b f g h k (λ rest ok. follows rest)
 
+  pub ends_ends : {a b : List ℕ} {f g : List Token → List Token} → Ends a f → Ends b g → ((rest : List ℕ) → EndsName (b ++ rest)) → Ends (a ++ b) (λ more. f (g more))
+  ends_ends {a} {b} {f} {g} h k follows = written_then EndsName EndsName a b f g h k (λ rest ok. follows rest)
+
+  pub empty_written : Free [] (λ more. more)
+  empty_written = record { on = λ rest more ok e. e }
+
   pub is_ends : {a : List ℕ} {f : List Token → List Token} → Free a f → Ends a f
   is_ends h = record { on = λ rest more ok e. h.on rest more tt e }
 
