@@ -8,3 +8,4 @@ pub mod Targets
 pub mod Telling
 pub mod OneAnswer
 pub mod WrittenTokens
+pub mod SpelledQuery
