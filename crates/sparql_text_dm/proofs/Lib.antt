@@ -9,3 +9,4 @@ pub mod Telling
 pub mod OneAnswer
 pub mod WrittenTokens
 pub mod SpelledQuery
+pub mod WrittenDepths
