@@ -10,3 +10,4 @@ pub mod OneAnswer
 pub mod WrittenTokens
 pub mod SpelledQuery
 pub mod WrittenDepths
+pub mod WrittenBack
