@@ -11,3 +11,4 @@ pub mod WrittenTokens
 pub mod SpelledQuery
 pub mod WrittenDepths
 pub mod WrittenBack
+pub mod ToldQuery
