@@ -253,3 +253,270 @@ is_join (conditions.Or' a f b g) end p = refl
 
 join_tells : Tells join_condition (Adds join_tokens)
 join_tells = or_tells (weaker (λ f front end h. h.0 ∙ is_join f end h.1) (filter_tells proper IsProper proper_tells)) (give_tells (λ end. refl))
+
+-- ---- targets
+
+or_parts : (a b : Bool) → (a || b) ≡ false → (a ≡ false) × (b ≡ false)
+or_parts true b e = absurd cc
+or_parts false b e = (refl, e)
+
+or_both : (a b : Bool) → a ≡ false → b ≡ false → (a || b) ≡ false
+or_both a b d e = rw (d, e) refl
+
+two : {W : Type 0} (x : Bool) → x ≡ true → x ≡ false → W
+two x d k = absurd cc
+
+other_way : (a b : List ℕ) → bytes_eq a b ≡ false → bytes_eq b a ≡ false
+other_way a b e = by (bytes_eq b a) refl
+  where
+    by : (x : Bool) → bytes_eq b a ≡ x → x ≡ false
+    by true h = two (bytes_eq a b) ((bytes_decides a b).1 (sym ((bytes_decides b a).0 h))) e
+    by false h = refl
+
+abbrev name_by : Bool → List ℕ → Option (List ℕ)
+name_by b x = cond b None (Some x)
+
+by_new : (b : Bool) (x y : List ℕ) → name_by b x ≡ Some y → (b ≡ false) × (x ≡ y)
+by_new true x y e = none_some y e
+by_new false x y e = (refl, some_is x y e)
+
+abbrev IsNewName : List Rename → List ℕ → Token → Type 0
+IsNewName taken x t = (t ≡ Var x) × (is_target taken x ≡ false)
+
+is_new : (taken : List Rename) (t : Token) (x : List ℕ) → new_name_of taken t ≡ Some x → IsNewName taken x t
+is_new taken (Var y) x e = let h = by_new (is_target taken y) y x e in (ap (λ z. Var z) h.1, subst (λ (z : List ℕ). is_target taken z ≡ false) h.1 h.0)
+is_new taken (Word w) x e = none_some x e
+is_new taken (Sign s) x e = none_some x e
+is_new taken (Iri i) x e = none_some x e
+is_new taken (Literal l) x e = none_some x e
+
+by_other : (o : Option (List ℕ)) (x y : List ℕ) → unless_named x o ≡ Some y → (o ≡ Some y) × (bytes_eq x y ≡ false)
+by_other None x y e = none_some y e
+by_other (Some z) x y e = let h = by_new (bytes_eq x z) z y e in (ap (λ u. name_by false u) h.1, subst (λ (u : List ℕ). bytes_eq x u ≡ false) h.1 h.0)
+
+is_other : (taken : List Rename) (x : List ℕ) (t : Token) (y : List ℕ) → other_name_of taken x t ≡ Some y → IsNewName taken y t × (bytes_eq x y ≡ false)
+is_other taken x t y e = let h = by_other (new_name_of taken t) x y e in (is_new taken t y h.0, h.1)
+
+-- the tokens of a target with a new name
+abbrev NewTarget : List Rename → Rename → List Token → List Token → Type 0
+NewTarget taken r front end = (front ≡ rename_tokens r end) × (is_target taken r.to ≡ false)
+
+abbrev rename_by : Bool → Rename → List Token → List Token
+rename_by b r end = cond b (Var r.to ∷ end) (other_tokens r end)
+
+same_target_tells : (taken : List Rename) → Tells (same_target taken) (NewTarget taken)
+unfolding same_target
+same_target_tells taken =
+    then_tells (token_tells {R = IsNewName taken} (is_new taken)) (λ x. give_tells (λ end front h. (
+      h.1 ∙ ap (λ t. t ∷ end) h.2.0 ∙ ap (λ b. rename_by b (renamed x x) end) (sym ((bytes_decides x x).1 refl)),
+      h.2.1,
+    )))
+
+other_target_tells : (taken : List Rename) → Tells (other_target taken) (NewTarget taken)
+unfolding other_target
+other_target_tells taken =
+    then_told (sign_tells OpenParenthesis) (λ _. then_told variable_tells (λ x. then_told (word_tells As) (λ _.
+    then_tells (token_tells {R = λ y t. IsNewName taken y t × (bytes_eq x y ≡ false)} (is_other taken x)) (λ y.
+    then_told (sign_tells CloseParenthesis) (λ _. give_tells (λ end front h. (
+      ap (λ us. Sign OpenParenthesis ∷ Var x ∷ Word As ∷ us) (h.1 ∙ ap (λ t. t ∷ Sign CloseParenthesis ∷ end) h.2.0.0) ∙ ap (λ b. rename_by b (renamed x y) end) (sym h.2.1),
+      h.2.0.1,
+    )))))))
+
+target_tells : (taken : List Rename) → Tells (target taken) (NewTarget taken)
+unfolding target
+target_tells taken = or_tells (other_target_tells taken) (same_target_tells taken)
+
+abbrev AreNew : List Rename → List Rename → Type 0
+AreNew taken [] = Unit {0}
+AreNew taken (r ∷ rs) = (is_target taken r.to ≡ false) × AreNew (taken ++ r ∷ []) rs
+
+abbrev NewTargets : List Rename → List Rename → List Token → List Token → Type 0
+NewTargets taken rs front end = (front ≡ renames_tokens rs end) × AreNew taken rs
+
+targets_within_tells : (n : ℕ) (taken : List Rename) → Tells (targets_within n taken) (NewTargets taken)
+unfolding targets_within
+targets_within_tells zero taken = give_tells (λ end. (refl, tt))
+targets_within_tells (suc n) taken =
+    or_tells
+    (then_tells (target_tells taken) (λ r. then_tells (targets_within_tells n (taken ++ r ∷ [])) (λ rs. give_tells (λ end mid k front h. (h.0 ∙ ap (λ us. rename_tokens r us) k.0, (h.1, k.1))))))
+    (give_tells (λ end. (refl, tt)))
+
+-- no new name is this one
+abbrev Blocks : List Rename → List ℕ → Type 0
+Blocks taken z = (x : List ℕ) → is_target taken x ≡ false → bytes_eq z x ≡ false
+
+before_last : (taken : List Rename) (s : Rename) (x : List ℕ) → is_target (taken ++ s ∷ []) x ≡ false → (is_target taken x ≡ false) × (bytes_eq s.to x ≡ false)
+before_last [] s x e = (refl, (or_parts (bytes_eq s.to x) false e).0)
+before_last (t ∷ taken) s x e =
+    let parts = or_parts (bytes_eq t.to x) (is_target (taken ++ s ∷ []) x) e in
+    let more = before_last taken s x parts.1 in
+    (or_both (bytes_eq t.to x) (is_target taken x) parts.0 more.0, more.1)
+
+not_again : (rs taken : List Rename) (z : List ℕ) → Blocks taken z → AreNew taken rs → is_target rs z ≡ false
+not_again [] taken z b h = refl
+not_again (s ∷ rs) taken z b h =
+    or_both (bytes_eq s.to z) (is_target rs z) (other_way z s.to (b s.to h.0)) (not_again rs (taken ++ s ∷ []) z (λ x e. b x (before_last taken s x e).0) h.1)
+
+apart_if_new : (rs taken : List Rename) → AreNew taken rs → AreTargetsApart rs
+apart_if_new [] taken h = tt
+apart_if_new (r ∷ rs) taken h = (not_again rs (taken ++ r ∷ []) r.to (λ x e. (before_last taken r x e).1) h.1, apart_if_new rs (taken ++ r ∷ []) h.1)
+
+some_renames : (r : Rename) (rs : List Rename) → r ∷ rs ≢ []
+some_renames r rs e = absurd cc
+
+abbrev Selectable : List Rename → List Token → List Token → Type 0
+Selectable rs front end = (front ≡ renames_tokens rs end) × AreSelectable rs
+
+targets_tell : Tells targets Selectable
+unfolding targets
+targets_tell =
+    then_tells (target_tells []) (λ r. then_tells (levels_tells (λ n. targets_within_tells n (r ∷ []))) (λ rs. give_tells (λ end mid k front h. (
+      h.0 ∙ ap (λ us. rename_tokens r us) k.0,
+      (some_renames r rs, apart_if_new (r ∷ rs) [] (refl, k.1)),
+    ))))
+
+-- ---- patterns
+
+-- tokens of a well-formed pattern
+abbrev Formed : Pattern → List Token → List Token → Type 0
+Formed p front end = (front ≡ pattern_tokens p end) × IsWellFormed p
+
+-- what stands in braces
+abbrev Braced : Pattern → List Token → List Token → Type 0
+Braced p front mid = (end : List Token) → mid ≡ Sign CloseBrace ∷ end → Formed p (Sign OpenBrace ∷ front) end
+
+and_formed : (p q : Pattern) (end : List Token) → IsWellFormed p → IsWellFormed q → Formed (patterns.And p q) (Sign OpenBrace ∷ pattern_tokens p (pattern_tokens q (Sign CloseBrace ∷ end))) end
+unfolding shape-the_row-Pattern-0 hidden-the_row-Pattern-0 hidden
+and_formed p q end v w = (refl, (v, w))
+
+left_join_formed : (p q : Pattern) (f : Condition) (end : List Token) → IsWellFormed p → IsWellFormed q
+    → Formed (patterns.LeftJoin p q f) (Sign OpenBrace ∷ pattern_tokens p (Word Optional ∷ Sign OpenBrace ∷ pattern_tokens q (join_tokens f (Sign CloseBrace ∷ Sign CloseBrace ∷ end)))) end
+unfolding shape-the_row-Pattern-0 hidden-the_row-Pattern-0 hidden
+left_join_formed p q f end v w = (refl, (v, w))
+
+union_formed : (p q : Pattern) (end : List Token) → IsWellFormed p → IsWellFormed q → Formed (patterns.Union p q) (Sign OpenBrace ∷ pattern_tokens p (Word Union ∷ pattern_tokens q (Sign CloseBrace ∷ end))) end
+unfolding shape-the_row-Pattern-0 hidden-the_row-Pattern-0 hidden
+union_formed p q end v w = (refl, (v, w))
+
+minus_formed : (p q : Pattern) (end : List Token) → IsWellFormed p → IsWellFormed q → Formed (patterns.Minus p q) (Sign OpenBrace ∷ pattern_tokens p (Word Minus ∷ pattern_tokens q (Sign CloseBrace ∷ end))) end
+unfolding shape-the_row-Pattern-0 hidden-the_row-Pattern-0 hidden
+minus_formed p q end v w = (refl, (v, w))
+
+filter_formed : (p : Pattern) (f : Condition) (end : List Token) → IsWellFormed p → Formed (patterns.Filter p f) (Sign OpenBrace ∷ pattern_tokens p (filter_tokens f (Sign CloseBrace ∷ end))) end
+unfolding shape-the_row-Pattern-0 hidden-the_row-Pattern-0 hidden
+filter_formed p f end v = (refl, v)
+
+select_formed : (p : Pattern) (rs : List Rename) (end : List Token) → IsWellFormed p → AreSelectable rs → Formed (patterns.Select p rs) (Sign OpenBrace ∷ Word Select ∷ renames_tokens rs (Word Where ∷ pattern_tokens p (Sign CloseBrace ∷ end))) end
+unfolding shape-the_row-Pattern-0 hidden-the_row-Pattern-0 hidden
+select_formed p rs end v some = (refl, (v, some))
+
+formed_along : (p : Pattern) (a b end : List Token) → a ≡ b → Formed p b end → Formed p a end
+formed_along p a b end e h = (e ∙ h.0, h.1)
+
+triple_tells : Tells triple Braced
+unfolding triple
+triple_tells =
+    then_told term_tells (λ s. then_told term_tells (λ p. then_told term_tells (λ o. then_told (sign_tells Dot) (λ _.
+    give_tells (λ mid end e. (ap (λ us. Sign OpenBrace ∷ operand_token s ∷ operand_token p ∷ operand_token o ∷ Sign Dot ∷ us) e, tt))))))
+
+module _ (part : Part Placed Pattern) (inside : Tells part Formed) where
+  select_tells : Tells (select part) Braced
+  unfolding select
+  select_tells =
+      then_told (word_tells Select) (λ _. then_tells targets_tell (λ rs. then_told (word_tells Where) (λ _. then_tells inside (λ p. give_tells (λ mid before k front h end e.
+      formed_along (patterns.Select p rs) _ _ end
+      (ap (λ us. Sign OpenBrace ∷ Word Select ∷ us) (h.0 ∙ ap (λ us. renames_tokens rs (Word Where ∷ us)) (k.0 ∙ ap (λ us. pattern_tokens p us) e)))
+      (select_formed p rs end k.1 h.1))))))
+
+  -- what stands behind a pattern in braces
+  abbrev Behind : Pattern → Pattern → List Token → List Token → Type 0
+  Behind p r front mid = (end : List Token) → mid ≡ Sign CloseBrace ∷ end → IsWellFormed p → Formed r (Sign OpenBrace ∷ pattern_tokens p front) end
+
+  abbrev Optionally : Pattern × Condition → List Token → List Token → Type 0
+  Optionally x front mid = (front ≡ Word Optional ∷ Sign OpenBrace ∷ pattern_tokens x.0 (join_tokens x.1 (Sign CloseBrace ∷ mid))) × IsWellFormed x.0
+
+  optional_tells : Tells (optional_part part) Optionally
+  unfolding optional_part
+  optional_tells =
+      then_told (word_tells Optional) (λ _. then_told (sign_tells OpenBrace) (λ _. then_tells inside (λ q. then_told join_tells (λ f. then_told (sign_tells CloseBrace) (λ _.
+      give_tells (λ mid front h. (ap (λ us. Word Optional ∷ Sign OpenBrace ∷ us) h.0, h.1)))))))
+
+  module _ (p : Pattern) where
+    left_join_tells : Tells (left_join part p) (Behind p)
+    unfolding left_join
+    left_join_tells = then_tells optional_tells (λ x. give_tells (λ mid front h end e w.
+        formed_along (patterns.LeftJoin p x.0 x.1) _ _ end
+        (ap (λ us. Sign OpenBrace ∷ pattern_tokens p us) (h.0 ∙ ap (λ us. Word Optional ∷ Sign OpenBrace ∷ pattern_tokens x.0 (join_tokens x.1 (Sign CloseBrace ∷ us))) e))
+        (left_join_formed p x.0 x.1 end w h.1)))
+
+    union_tells : Tells (then (word Union) (λ _. then part (λ q. give (patterns.Union p q)))) (Behind p)
+    union_tells = then_told (word_tells Union) (λ _. then_tells inside (λ q. give_tells (λ mid front h end e w.
+        formed_along (patterns.Union p q) _ _ end (ap (λ us. Sign OpenBrace ∷ pattern_tokens p (Word Union ∷ us)) (h.0 ∙ ap (λ us. pattern_tokens q us) e)) (union_formed p q end w h.1))))
+
+    minus_tells : Tells (then (word Minus) (λ _. then part (λ q. give (patterns.Minus p q)))) (Behind p)
+    minus_tells = then_told (word_tells Minus) (λ _. then_tells inside (λ q. give_tells (λ mid front h end e w.
+        formed_along (patterns.Minus p q) _ _ end (ap (λ us. Sign OpenBrace ∷ pattern_tokens p (Word Minus ∷ us)) (h.0 ∙ ap (λ us. pattern_tokens q us) e)) (minus_formed p q end w h.1))))
+
+    filtered_tells : Tells (then (filter condition) (λ f. give (patterns.Filter p f))) (Behind p)
+    filtered_tells = then_tells (filter_tells condition IsAny condition_tells) (λ f. give_tells (λ mid front h end e w.
+        formed_along (patterns.Filter p f) _ _ end (ap (λ us. Sign OpenBrace ∷ pattern_tokens p us) (h.0 ∙ ap (λ us. filter_tokens f us) e)) (filter_formed p f end w)))
+
+    and_tells : Tells (then part (λ q. give (patterns.And p q))) (Behind p)
+    and_tells = then_tells inside (λ q. give_tells (λ mid front h end e w.
+        formed_along (patterns.And p q) _ _ end (ap (λ us. Sign OpenBrace ∷ pattern_tokens p us) (h.0 ∙ ap (λ us. pattern_tokens q us) e)) (and_formed p q end w h.1)))
+
+    operator_tells : Tells (operator part p) (Behind p)
+    unfolding operator
+    operator_tells = or_tells union_tells (or_tells minus_tells (or_tells left_join_tells (or_tells filtered_tells and_tells)))
+
+  operation_tells : Tells (then part (λ p. operator part p)) Braced
+  operation_tells = then_tells inside (λ p. weaker (λ r mid close k front h end e. formed_along r _ _ end (ap (λ us. Sign OpenBrace ∷ us) h.0) (k end e h.1)) (operator_tells p))
+
+  empty_tells : Tells (give patterns.Empty) Braced
+  empty_tells = give_tells (λ mid end e. (ap (λ us. Sign OpenBrace ∷ us) e, tt))
+
+  content_tells : Tells (content part) Braced
+  unfolding content
+  content_tells = or_tells triple_tells (or_tells select_tells (or_tells operation_tells empty_tells))
+
+within_braces : (n : ℕ) → Tells (pattern_within n) Formed
+unfolding pattern_within
+within_braces zero = never_tells
+within_braces (suc n) = then_told (sign_tells OpenBrace) (λ _. then_tells (content_tells (pattern_within n) (within_braces n)) (λ p. then_told (sign_tells CloseBrace) (λ _. give_tells (λ end front h. h end refl))))
+
+pattern_tells : Tells pattern Formed
+pattern_tells = levels_tells within_braces
+
+-- ---- queries
+
+names_tell : {ts rest : List Placed} {xs : List (List ℕ)} → Repeats (Spells variable) ts rest xs → tokens_in ts ≡ names_tokens xs (tokens_in rest)
+names_tell no_repeat = refl
+names_tell (one_more {ts = ts} {mid = mid} {rest = rest} {v = x} {vs = xs} s h) = variable_tells.on ts mid x s ∙ ap (λ us. Var x ∷ us) (names_tell h)
+
+repeated_tells : Tells (repeated variable) (Adds names_tokens)
+repeated_tells = record { on = λ ts rest xs s. names_tell s }
+
+some_names : (x : List ℕ) (xs : List (List ℕ)) → x ∷ xs ≢ []
+some_names x xs e = absurd cc
+
+header_tells : Tells header (λ xs front end. (front ≡ names_tokens xs end) × (xs ≢ []))
+unfolding header
+header_tells = then_told variable_tells (λ x. then_told repeated_tells (λ xs. give_tells (λ end. (refl, some_names x xs))))
+
+-- a header that isn't empty and a well-formed pattern, and their tokens
+pub record IsTold (x : Query) (front end : List Token) : Type 0 where
+  pub tokens : front ≡ query_tokens x.0 x.1 end
+  pub some : x.0 ≢ []
+  pub formed : IsWellFormed x.1
+
+query_tells : Tells query IsTold
+unfolding query
+query_tells =
+    then_told (word_tells Select) (λ _. then_told (word_tells Distinct) (λ _. then_tells header_tells (λ xs. then_told (word_tells Where) (λ _. then_tells pattern_tells (λ p. give_tells (λ end mid k front h. record {
+      tokens = ap (λ us. Word Select ∷ Word Distinct ∷ us) (h.0 ∙ ap (λ us. names_tokens xs (Word Where ∷ us)) k.0);
+      some = h.1;
+      formed = k.1;
+    }))))))
+
+pub query_told : (ts : List Placed) (x : Query) → Spells query ts [] x → IsTold x (tokens_in ts) []
+query_told ts x s = query_tells.on ts [] x s
