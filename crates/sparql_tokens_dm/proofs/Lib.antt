@@ -6,3 +6,4 @@ pub mod Unique
 pub mod WrittenTerms
 pub mod Pieces
 pub mod Phrases
+pub mod LawfulTokens
