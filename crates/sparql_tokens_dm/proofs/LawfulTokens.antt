@@ -19,13 +19,13 @@ use Rattle.ntriples_reader_dm.specs.Part.{Repeats}
 use Rattle.ntriples_reader_dm.specs.Part.Repeats.{no_repeat, one_more}
 use Rattle.ntriples_reader_dm.proofs.Exact.{both_of}
 use Rattle.sparql_tokens_dm.specs.Characters.{sign_text, spelling}
-use Rattle.sparql_tokens_dm.specs.Tokens.{AreTokens, AreTokensOf, Consists, IsSpace, StandsToken}
+use Rattle.sparql_tokens_dm.specs.Tokens.{AreTokens, Consists, StandsToken, stop_behind}
 use Rattle.sparql_tokens_dm.specs.Tokens.Consists.{nothing, between, token}
 use Rattle.sparql_tokens_dm.specs.declared.token.Token.{Token}
 use Rattle.sparql_tokens_dm.specs.declared.token.Token.TheVariants.{Sign, Word, Var, Iri, Literal}
 use Rattle.sparql_tokens_dm.specs.declared.token.Placed.{Placed}
 use Rattle.sparql_tokens_dm.proofs.Pieces.{tokens_in}
-use Rattle.sparql_tokens_dm.proofs.Scans.{space_behind, token_behind}
+use Rattle.sparql_tokens_dm.proofs.Scans.{token_behind}
 
 -- ---- parts of texts are texts
 
@@ -131,3 +131,106 @@ iri_text ts rest iri s h =
     let after = (first_scalar 62 inside.0 close.0 close.2 read.1).1 in
     let same : iri ≡ inside.1 = close.3.1 in
     (subst (λ (x : List ℕ). IsIri x) (sym same) (ap not (all_allowed inside.2), read.0), sym (ap all_scalars close.3.0) ∙ after)
+
+-- ---- literals
+
+blanks_text : (ts rest : List ℕ) → blanks ts rest tt → IsText ts → IsText rest
+blanks_text ts rest s h = (whole_text ts s.0 rest s.1 h).1
+
+quoted_text : (ts rest text : List ℕ) → quoted ts rest text → IsText ts → IsText text × IsText rest
+unfolding quoted
+quoted_text ts rest text s h =
+    let inside = s.3 in
+    let close = inside.3 in
+    let read = repeats_text text_character text_character_text inside.2 (first_scalar 34 ts s.0 s.2 h).1 in
+    let after = (first_scalar 34 inside.0 close.0 close.2 read.1).1 in
+    (sym (ap all_scalars (sym close.3.1)) ∙ read.0, sym (ap all_scalars close.3.0) ∙ after)
+
+tag_text : (ts rest t : List ℕ) → tag ts rest t → IsText ts → IsTag t
+unfolding tag
+tag_text ts rest t s h = (s.3.allowed, (whole_text s.0 t rest s.3.stands (first_scalar 64 ts s.0 s.2 h).1).0)
+
+-- before the type xsd:string is left out
+abbrev IsWrittenType : LiteralType → Type 0
+IsWrittenType Plain = Unit {0}
+IsWrittenType (Typed d) = IsIri d
+IsWrittenType (Tagged t) = IsTag t
+
+type_text : (ts rest : List ℕ) (k : LiteralType) → literal_type ts rest k → IsText ts → IsWrittenType k
+unfolding literal_type
+type_text ts rest k s h = elim s [
+  | inl plain ↦ subst (λ (x : LiteralType). IsWrittenType x) (sym plain.1) tt
+  | inr other ↦ elim other [
+    | inl typed ↦
+        let first = blanks_text ts typed.0 typed.2 h in
+        let one = typed.3 in
+        let two = one.3 in
+        let three = two.3 in
+        let four = three.3 in
+        let behind = blanks_text two.0 three.0 three.2 (first_scalar 94 one.0 two.0 two.2 (first_scalar 94 typed.0 one.0 one.2 first).1).1 in
+        subst (λ (x : LiteralType). IsWrittenType x) (sym four.3.1) (iri_text three.0 four.0 four.1 four.2 behind).0
+    | inr tagged ↦
+        let first = blanks_text ts tagged.0 tagged.2 h in
+        let one = tagged.3 in
+        subst (λ (x : LiteralType). IsWrittenType x) (sym one.3.1) (tag_text tagged.0 one.0 one.1 one.2 first)
+  ]
+]
+
+abbrev type_by : Bool → LiteralType → LiteralType
+type_by b k = cond b Plain k
+
+typed_lawful : (d : List ℕ) (b : Bool) → is_string_type (Typed d) ≡ b → IsIri d → IsLawfulType (type_by b (Typed d))
+typed_lawful d true e h = tt
+typed_lawful d false e h = (h, e)
+
+type_lawful : (k : LiteralType) → IsWrittenType k → IsLawfulType (normal_type k)
+type_lawful Plain h = tt
+type_lawful (Typed d) h = typed_lawful d (is_string_type (Typed d)) refl h
+type_lawful (Tagged t) h = h
+
+literal_text : (ts rest : List ℕ) (t : Term) → literal ts rest t → IsText ts → IsLawfulTerm t
+unfolding literal
+literal_text ts rest t s h =
+    let behind = s.3 in
+    let read = quoted_text ts s.0 s.1 s.2 h in
+    subst (λ (x : Term). IsLawfulTerm x) (sym behind.3.1) (read.0, type_lawful behind.1 (type_text s.0 behind.0 behind.1 behind.2 read.1))
+
+-- ---- tokens
+
+abbrev pub IsLawfulToken : Token → Type 0
+IsLawfulToken (Sign s) = Unit {0}
+IsLawfulToken (Word w) = Unit {0}
+IsLawfulToken (Var x) = is_variable x ≡ true
+IsLawfulToken (Iri i) = IsLawfulTerm (terms.Iri i)
+IsLawfulToken (Literal l) = IsLawfulTerm (terms.Literal l)
+
+abbrev pub AreLawful : List Token → Type 0
+AreLawful [] = Unit {0}
+AreLawful (t ∷ ts) = IsLawfulToken t × AreLawful ts
+
+name_lawful : (x : List ℕ) → x ≢ [] → list_all is_variable_character x ≡ true → is_variable x ≡ true
+unfolding is_variable
+name_lawful [] some e = absurd (some refl)
+name_lawful (c ∷ cs) some e = e
+
+token_lawful : (t : Token) (ts rest : List ℕ) → StandsToken t ts rest → IsText ts → IsLawfulToken t
+token_lawful (Sign s) ts rest h text = tt
+token_lawful (Word w) ts rest h text = tt
+token_lawful (Var x) ts rest h text = name_lawful x h.0 h.1.2.pass
+token_lawful (Iri i) ts rest h text = (iri_text ts rest i h.stands text).0
+token_lawful (Literal l) ts rest h text = literal_text ts rest (terms.Literal l) h.stands text
+
+consists_lawful : {total : ℕ} {ts rest : List ℕ} {found : List Placed} → Consists total ts found rest → IsText ts → AreLawful (tokens_in found)
+consists_lawful nothing text = tt
+consists_lawful (between {ts = ts} {after = after} s h) text = consists_lawful h (first_scalar s.0 ts after s.1 text).1
+consists_lawful (token {ts = ts} {after = after} {token = t} s h) text =
+    let behind = token_behind t ts after s in
+    let mid = (first_scalar behind.0 ts behind.1 behind.2 text).1 in
+    (token_lawful t ts after s text, consists_lawful h (whole_text behind.1 behind.3.front after behind.3.whole mid).1)
+
+pub tokens_lawful : (bytes : List ℕ) (found : List Placed) → AreTokens bytes found None → AreLawful (tokens_in found)
+tokens_lawful bytes found (inl h) = consists_lawful h.1 (scalars-chars bytes h.0)
+tokens_lawful bytes found (inr h) = absurd (let e = h.2.2 in none_is h.2.0 h.0 e)
+  where
+    none_is : (end : Option ℕ) (n : ℕ) → ◌≡◌ {A = Option ℕ} None (Some (stop_behind end n)) → ⊥
+    none_is end n e = absurd cc
