@@ -12,3 +12,4 @@ pub mod SpelledQuery
 pub mod WrittenDepths
 pub mod WrittenBack
 pub mod ToldQuery
+pub mod Accepted

@@ -13,7 +13,7 @@ use Rattle.sparql_text_dm.specs.declared.error.SparqlError.TheVariants.{BadPatte
 use Rattle.sparql_text_dm.specs.declared.parsed.Parsed.{Parsed}
 use Rattle.sparql_text_dm.specs.Answer.{HasOneAnswer, IsAnswer, IsTextOf}
 use Rattle.sparql_text_dm.specs.Grammar.{query}
-use Rattle.sparql_text_dm.specs.Written.{GivesBack, IsQuery, IsSpelling, Spell, TextsReadBack}
+use Rattle.sparql_text_dm.specs.Written.{GivesBack, IsQuery, IsSpelling, SpellsQuery, TextsReadBack}
 use Rattle.sparql_text_dm.proofs.OneAnswer.{one_answer}
 use Rattle.sparql_text_dm.proofs.SpelledQuery.{tokens_spell}
 use Rattle.sparql_text_dm.proofs.WrittenDepths.{query_shallow}
@@ -23,7 +23,7 @@ use Rattle.sparql_text_dm.proofs.WrittenTokens.{query_tokens, text_tokens}
 of_tokens : (bytes : List ℕ) (x : Parsed) (ts : List Placed) → IsQuery x.header x.pattern → AreTokens bytes ts None → tokens_in ts ≡ query_tokens x.header x.pattern [] → IsTextOf bytes x
 of_tokens bytes x ts q are e = (ts, are, (refl, (query_shallow x.header x.pattern ts e).1 q.nested), tokens_spell x.header x.pattern ts q.some q.formed e)
 
-pub spelled_text : (bytes : List ℕ) (x : Parsed) → Spell bytes x → IsTextOf bytes x
+pub spelled_text : (bytes : List ℕ) (x : Parsed) → SpellsQuery bytes x → IsTextOf bytes x
 spelled_text bytes x s =
     let text = text_tokens x.header x.pattern s.0 in
     let spelling = s.1 in

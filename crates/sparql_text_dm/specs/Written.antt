@@ -100,8 +100,8 @@ IsSpelling bytes header p =
     (ts us : List Placed) × AreTokens bytes ts None × AreTokens (query_text header p) us None × (map (λ (t : Placed). t.token) ts ≡ map (λ (u : Placed). u.token) us)
 
 -- the bytes spell this query
-abbrev pub Spell : List ℕ → Parsed → Type 0
-Spell bytes x = IsQuery x.header x.pattern × IsSpelling bytes x.header x.pattern
+abbrev pub SpellsQuery : List ℕ → Parsed → Type 0
+SpellsQuery bytes x = IsQuery x.header x.pattern × IsSpelling bytes x.header x.pattern
 
 -- this query, or want of memory
 abbrev pub GivesBack : List (List ℕ) → Pattern → Result Parsed SparqlError → Type 0
