@@ -13,6 +13,7 @@ use Rattle.sparql_tokens_dm.specs.declared.token.Keyword.TheVariants.{Filter, Tr
 use Rattle.sparql_tokens_dm.specs.declared.token.Sign.TheVariants.{OpenParenthesis, CloseParenthesis, Comma, Not}
 use Rattle.sparql_tokens_dm.specs.declared.token.Placed.{Placed}
 use Rattle.pattern_dm.specs.declared.pattern.Condition.{Condition}
+use Rattle.pattern_dm.specs.declared.pattern.Condition.TheVariants as conditions
 use Rattle.sparql_text_dm.specs.Grammar.{bound, condition, connection, filter, grouped, negation, proper, proper_within, same_term, sign, term, terms, true_or, variable, word}
 use Rattle.sparql_text_dm.specs.Reading.{Read, all_proper_at, bound_at, choice_at, condition_at, connected_at, filter_at, grouped_at, negation_at, proper_at, same_term_at, terms_at, true_at, true_or_at}
 use Rattle.sparql_text_dm.specs.Words.{connective_of, is_sign, is_word}
@@ -30,7 +31,7 @@ same_term_reads : (ts : List Placed) → Reads same_term no ts (same_term_at ts)
 unfolding same_term same_term_at
 same_term_reads ts = token_then _ _ no ts _ (λ _ a. closed_then terms _ no a _ _ (terms_reads a) (λ x b. give_reads _ no b))
 
-true_reads : (ts : List Placed) → Reads (then (word True) (λ _. give _)) no ts (true_at ts)
+true_reads : (ts : List Placed) → Reads (then (word True) (λ _. give conditions.True)) no ts (true_at ts)
 unfolding true_at
 true_reads ts = token_then _ _ no ts _ (λ _ a. give_reads _ no a)
 
@@ -65,14 +66,14 @@ module _ (n : ℕ) (reads : (ts : List Placed) → Reads (proper_within n) no ts
 
   part_reads : (ts : List Placed) → Reads part no ts (read ts)
   part_reads ts =
-      or_by (is_word True) (then (word True) _) (proper_within n) no ts (true_at ts) (proper_at n ts)
+      or_by (is_word True) (then (word True) (λ _. give conditions.True)) (proper_within n) no ts (true_at ts) (proper_at n ts)
       (λ e. (true_reads ts, proper_apart n ts (parted (is_word True) (is_word Bound) (words True Bound refl) ts e) (parted (is_word True) (is_word SameTerm) (words True SameTerm refl) ts e) (parted (is_word True) (is_sign OpenParenthesis) (word_sign True OpenParenthesis) ts e)))
       (λ e. (token_then_blocked _ _ no ts e, reads ts))
 
   -- it doesn't begin with `!`
   part_apart : (ts : List Placed) → starts (is_sign Not) ts ≡ true → Apart part no ts
   part_apart ts e =
-      or_apart (then (word True) _) (proper_within n) no ts ts (token_then_blocked _ _ no ts (parted (is_sign Not) (is_word True) (sign_word Not True) ts e))
+      or_apart (then (word True) (λ _. give conditions.True)) (proper_within n) no ts ts (token_then_blocked _ _ no ts (parted (is_sign Not) (is_word True) (sign_word Not True) ts e))
       (proper_apart n ts (parted (is_sign Not) (is_word Bound) (sign_word Not Bound) ts e) (parted (is_sign Not) (is_word SameTerm) (sign_word Not SameTerm) ts e) (parted (is_sign Not) (is_sign OpenParenthesis) (signs Not OpenParenthesis refl) ts e))
 
   negation_reads : (ts : List Placed) → Reads (negation part) no ts (negation_at read ts)
@@ -128,7 +129,7 @@ module _ (n m k : ℕ) (sub : (ts : List Placed) → length ts ≤ k → Sub (pr
   many = true_or (proper_within m)
 
   part_sub : (ts : List Placed) → length ts ≤ k → Sub few many ts
-  part_sub ts le = or_sub (then (word True) _) (proper_within n) (then (word True) _) (proper_within m) ts (self_sub _ ts) (sub ts le)
+  part_sub ts le = or_sub (then (word True) (λ _. give conditions.True)) (proper_within n) (then (word True) (λ _. give conditions.True)) (proper_within m) ts (self_sub _ ts) (sub ts le)
 
   negation_sub : (ts : List Placed) → length ts ≤ k → Sub (negation few) (negation many) ts
   unfolding negation
@@ -177,4 +178,4 @@ nil_starts ts e = levels_apart ts (λ n. proper_apart n ts (parted (is_word True
 
 pub all_condition_reads : (ts : List Placed) → Reads condition no ts (condition_at ts)
 all_condition_reads ts =
-    or_by (is_word True) (then (word True) _) proper no ts (true_at ts) (all_proper_at ts) (λ e. (true_reads ts, nil_starts ts e)) (λ e. (token_then_blocked _ _ no ts e, all_proper_reads ts))
+    or_by (is_word True) (then (word True) (λ _. give conditions.True)) proper no ts (true_at ts) (all_proper_at ts) (λ e. (true_reads ts, nil_starts ts e)) (λ e. (token_then_blocked _ _ no ts e, all_proper_reads ts))

@@ -3,10 +3,13 @@ pub mod ConditionReaders
 pub mod PatternReaders
 pub mod Depths
 pub mod Exits
+pub mod Following
+pub mod NewNames
 pub mod Loops
-pub mod Targets
+pub mod TargetLoops
 pub mod Telling
 pub mod OneAnswer
+pub mod Formed
 pub mod WrittenTokens
 pub mod SpelledQuery
 pub mod WrittenDepths

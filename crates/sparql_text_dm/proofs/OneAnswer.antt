@@ -52,7 +52,7 @@ two_tokens kept p q h k = h.3 ∙ ap (λ (t : Placed). t.place) (first_same h.0 
     first_same : (t u : Placed) (ts us : List Placed) → t ∷ ts ≡ u ∷ us → t ≡ u
     first_same t u ts us e = cc
 
-parsed_of : Query → Parsed
+abbrev parsed_of : Query → Parsed
 parsed_of x = record { header = x.0; pattern = x.1 }
 
 seen_same : (p q : Parsed) → seen p ≡ seen q → p ≡ q

@@ -7,7 +7,7 @@ use Rattle.grammar_dm.specs.Part.Part.{give, levels, or, repeated, then, token}
 use Rattle.grammar_dm.specs.Reading.{◌>>=◌, Answer, fault_at, many_at, starts, took}
 use Rattle.grammar_dm.proofs.Choices.{Sub, closed_reads, either, is_first, is_second, neither, widened, or_apart, or_by, parted, repeated_reads, token_repeatable}
 use Rattle.grammar_dm.proofs.Equations.{or_sub, self_sub, then_sub}
-use Rattle.grammar_dm.proofs.Laws.{Apart, Reads, closed_then, give_apart, give_reads, no, then_blocked, then_reads, token_takes, token_then, token_then_blocked}
+use Rattle.grammar_dm.proofs.Laws.{Apart, Reads, closed_then, give_apart, give_reads, no, then_blocked, then_reads, token_blocked, token_takes, token_then, token_then_blocked}
 use Rattle.grammar_dm.proofs.Nesting.{levels_reads, never_reads, never_sub, nil_sub}
 use Rattle.grammar_dm.proofs.Fronts.{behind_whole, suffix_length}
 use Rattle.sparql_tokens_dm.specs.Characters.{spelling}
@@ -15,12 +15,14 @@ use Rattle.sparql_tokens_dm.specs.declared.token.Keyword.{Keyword}
 use Rattle.sparql_tokens_dm.specs.declared.token.Keyword.TheVariants.{Select, Distinct, Where, As, Union, Minus, Optional, Filter, True}
 use Rattle.sparql_tokens_dm.specs.declared.token.Sign.TheVariants.{OpenBrace, CloseBrace, OpenParenthesis, CloseParenthesis, Dot}
 use Rattle.sparql_tokens_dm.specs.declared.token.Placed.{Placed}
+use Rattle.sparql_tokens_dm.specs.declared.token.Token.{Token}
+use Rattle.sparql_tokens_dm.specs.declared.token.Token.TheVariants as tokens
 use Rattle.pattern_dm.specs.declared.pattern.Condition.{Condition}
 use Rattle.pattern_dm.specs.declared.pattern.Pattern.{Pattern}
 use Rattle.pattern_dm.specs.declared.pattern.Pattern.TheVariants as patterns
-use Rattle.sparql_text_dm.specs.Grammar.{condition, content, filter, header, join_condition, left_join, operator, optional_part, other_target, pattern, pattern_within, proper, query, same_target, select, sign, target, targets, targets_within, term, triple, true_or, variable, word}
+use Rattle.sparql_text_dm.specs.Grammar.{condition, content, filter, header, join_condition, left_join, operator, optional_part, other_target, pattern, pattern_within, proper, query, renamed, same_target, select, sign, target, targets, targets_within, term, triple, true_or, variable, word}
 use Rattle.sparql_text_dm.specs.Reading.{Read, all_proper_at, all_targets_at, and_pattern_at, begins_target, condition_at, content_at, filter_at, filtered_at, header_at, join_condition_at, left_join_at, minus_at, operation_at, operator_at, optional_part_at, other_target_at, pattern_at, query_at, same_target_at, select_at, sign_at, target_at, targets_at, triple_at, true_at, true_or_at, union_at, variable_at, variables_at}
-use Rattle.sparql_text_dm.specs.Words.{is_operand, is_sign, is_variable_token, is_word, new_name_of, unless_target, variable_of}
+use Rattle.sparql_text_dm.specs.Words.{is_operand, is_sign, is_variable_token, is_word, new_name_of, other_name_of, sign_of, unless_target, variable_of}
 use Rattle.sparql_text_dm.proofs.Firsts.{operand_sign, operand_word, sign_operand, sign_variable, sign_word, signs, variable_word, word_sign, words}
 use Rattle.sparql_text_dm.proofs.ConditionReaders.{all_condition_reads, all_proper_reads}
 
@@ -75,7 +77,7 @@ other_target_apart : (taken : List Rename) (ts : List Placed) → starts (is_sig
 unfolding other_target
 other_target_apart taken ts e = token_then_blocked _ _ no ts e
 
-target_reads : (taken : List Rename) (ts : List Placed) → Reads (target taken) no ts (target_at taken ts)
+pub target_reads : (taken : List Rename) (ts : List Placed) → Reads (target taken) no ts (target_at taken ts)
 unfolding target
 target_reads taken ts =
     or_by (is_sign OpenParenthesis) (other_target taken) (same_target taken) no ts (other_target_at taken ts) (same_target_at taken ts)
@@ -91,20 +93,20 @@ target_apart taken ts e =
 abbrev one_more : ℕ → List Rename → Part Placed (List Rename)
 one_more n taken = then (target taken) (λ r. then (targets_within n (taken ++ r ∷ [])) (λ rs. give (r ∷ rs)))
 
-targets_reads : (n : ℕ) (taken : List Rename) (ts : List Placed) → Reads (targets_within n taken) begins_target ts (targets_at n taken ts)
-
-one_more_reads : (n : ℕ) (taken : List Rename) (ts : List Placed) → Reads (one_more n taken) begins_target ts (target_at taken ts >>= λ r. targets_at n (taken ++ r.0 ∷ []) r.1 >>= λ rs. Ok (r.0 ∷ rs.0, rs.1))
-one_more_reads n taken ts =
-    closed_then (target taken) _ begins_target ts _ _ (target_reads taken ts) (λ r a.
-    then_reads (targets_within n (taken ++ r ∷ [])) _ begins_target begins_target a _ _ (targets_reads n (taken ++ r ∷ []) a) (λ rs b _. give_reads _ begins_target b) (λ rs b g. give_apart _ begins_target b g))
-
 one_more_apart : (n : ℕ) (taken : List Rename) (ts : List Placed) → starts begins_target ts ≡ false → Apart (one_more n taken) begins_target ts
 one_more_apart n taken ts e = then_blocked (target taken) _ begins_target ts (target_apart taken ts e)
 
+module _ (n : ℕ) (reads : (taken : List Rename) (ts : List Placed) → Reads (targets_within n taken) begins_target ts (targets_at n taken ts)) where
+  one_more_reads : (taken : List Rename) (ts : List Placed) → Reads (one_more n taken) begins_target ts (target_at taken ts >>= λ r. targets_at n (taken ++ r.0 ∷ []) r.1 >>= λ rs. Ok (r.0 ∷ rs.0, rs.1))
+  one_more_reads taken ts =
+      closed_then (target taken) _ begins_target ts _ _ (target_reads taken ts) (λ r a.
+      then_reads (targets_within n (taken ++ r ∷ [])) _ begins_target begins_target a _ _ (reads (taken ++ r ∷ []) a) (λ rs b _. give_reads _ begins_target b) (λ rs b g. give_apart _ begins_target b g))
+
+targets_reads : (n : ℕ) (taken : List Rename) (ts : List Placed) → Reads (targets_within n taken) begins_target ts (targets_at n taken ts)
 unfolding targets_within targets_at
 targets_reads zero taken ts = give_reads [] begins_target ts
 targets_reads (suc n) taken ts =
-    or_by begins_target (one_more n taken) (give []) begins_target ts _ _ (λ e. (one_more_reads n taken ts, give_apart [] begins_target ts e)) (λ e. (one_more_apart n taken ts e, give_reads [] begins_target ts))
+    or_by begins_target (one_more n taken) (give []) begins_target ts _ _ (λ e. (one_more_reads n (targets_reads n) taken ts, give_apart [] begins_target ts e)) (λ e. (one_more_apart n taken ts e, give_reads [] begins_target ts))
 
 second_sub : {V : Type 0} (p q : Part Placed V) (ts : List Placed) → Sub q (or p q) ts
 second_sub p q ts = record { spells = λ r v h. inr h; begins = λ r h. inr h; marks = λ r h. inr h }
@@ -112,11 +114,13 @@ second_sub p q ts = record { spells = λ r v h. inr h; begins = λ r h. inr h; m
 -- a target takes a token
 same_takes : (taken : List Rename) (ts mid : List Placed) (r : Rename) → Spells (same_target taken) ts mid r → length mid < length ts
 unfolding same_target
-same_takes taken ts mid r s = token_takes _ _ ts mid r s
+same_takes taken ts mid r s = token_takes (λ (t : Placed). new_name_of taken t.token) (λ x. give (renamed x x)) ts mid r s
 
 other_takes : (taken : List Rename) (ts mid : List Placed) (r : Rename) → Spells (other_target taken) ts mid r → length mid < length ts
 unfolding other_target
-other_takes taken ts mid r s = token_takes _ _ ts mid r s
+other_takes taken ts mid r s =
+    token_takes (λ (t : Placed). sign_of OpenParenthesis t.token) (λ _. then variable (λ x. then (word As) (λ _. then (token (λ t. other_name_of taken x t.token)) (λ y.
+    then (sign CloseParenthesis) (λ _. give (renamed x y)))))) ts mid r s
 
 pub target_takes : (taken : List Rename) (ts mid : List Placed) (r : Rename) → Spells (target taken) ts mid r → length mid < length ts
 unfolding target
@@ -184,19 +188,19 @@ module _ (part : Part Placed Pattern) (read : Read Pattern) (reads : (ts : List 
   unfolding left_join left_join_at
   left_join_reads p ts = closed_then (optional_part part) _ no ts _ _ (optional_reads ts) (λ x a. give_reads _ no a)
 
-  union_reads : (p : Pattern) (ts : List Placed) → Reads (then (word Union) (λ _. then part (λ q. give _))) no ts (union_at read p ts)
+  union_reads : (p : Pattern) (ts : List Placed) → Reads (then (word Union) (λ _. then part (λ q. give (patterns.Union p q)))) no ts (union_at read p ts)
   unfolding union_at
   union_reads p ts = token_then _ _ no ts _ (λ _ a. closed_then part _ no a _ _ (reads a) (λ q b. give_reads _ no b))
 
-  minus_reads : (p : Pattern) (ts : List Placed) → Reads (then (word Minus) (λ _. then part (λ q. give _))) no ts (minus_at read p ts)
+  minus_reads : (p : Pattern) (ts : List Placed) → Reads (then (word Minus) (λ _. then part (λ q. give (patterns.Minus p q)))) no ts (minus_at read p ts)
   unfolding minus_at
   minus_reads p ts = token_then _ _ no ts _ (λ _ a. closed_then part _ no a _ _ (reads a) (λ q b. give_reads _ no b))
 
-  filtered_reads : (p : Pattern) (ts : List Placed) → Reads (then (filter condition) (λ f. give _)) no ts (filtered_at p ts)
+  filtered_reads : (p : Pattern) (ts : List Placed) → Reads (then (filter condition) (λ f. give (patterns.Filter p f))) no ts (filtered_at p ts)
   unfolding filtered_at
   filtered_reads p ts = closed_then (filter condition) _ no ts _ _ (condition_filter_reads ts) (λ f a. give_reads _ no a)
 
-  and_reads : (p : Pattern) (ts : List Placed) → Reads (then part (λ q. give _)) no ts (and_pattern_at read p ts)
+  and_reads : (p : Pattern) (ts : List Placed) → Reads (then part (λ q. give (patterns.And p q))) no ts (and_pattern_at read p ts)
   unfolding and_pattern_at
   and_reads p ts = closed_then part _ no ts _ _ (reads ts) (λ q a. give_reads _ no a)
 
@@ -238,16 +242,22 @@ module _ (part : Part Placed Pattern) (read : Read Pattern) (reads : (ts : List 
   operator_reads p ts =
       or_by (is_word Union) (united p) (or (lessened p) (or (left_join part p) (or (kept p) (joined p)))) no ts (union_at read p ts) _
       (λ e. (union_reads p ts, lessened_apart p ts (word_lacks Union Minus refl ts e) (word_lacks Union Optional refl ts e) (word_lacks Union Filter refl ts e) (no_brace Union ts e)))
-      (λ u. (token_then_blocked _ _ no ts u,
-      or_by (is_word Minus) (lessened p) (or (left_join part p) (or (kept p) (joined p))) no ts (minus_at read p ts) _
-      (λ e. (minus_reads p ts, joining_apart p ts (word_lacks Minus Optional refl ts e) (word_lacks Minus Filter refl ts e) (no_brace Minus ts e)))
-      (λ m. (token_then_blocked _ _ no ts m,
-      or_by (is_word Optional) (left_join part p) (or (kept p) (joined p)) no ts (left_join_at read p ts) _
-      (λ e. (left_join_reads p ts, kept_apart p ts (word_lacks Optional Filter refl ts e) (no_brace Optional ts e)))
-      (λ o. (left_join_apart part p ts o,
-      or_by (is_word Filter) (kept p) (joined p) no ts (filtered_at p ts) (and_pattern_at read p ts)
-      (λ e. (filtered_reads p ts, joined_apart p ts (no_brace Filter ts e)))
-      (λ f. (then_blocked (filter condition) _ no ts (filter_apart condition no ts f), and_reads p ts))))))))
+      (λ u. (
+        token_then_blocked _ _ no ts u,
+        or_by (is_word Minus) (lessened p) (or (left_join part p) (or (kept p) (joined p))) no ts (minus_at read p ts) _
+            (λ e. (minus_reads p ts, joining_apart p ts (word_lacks Minus Optional refl ts e) (word_lacks Minus Filter refl ts e) (no_brace Minus ts e)))
+            (λ m. (
+              token_then_blocked _ _ no ts m,
+              or_by (is_word Optional) (left_join part p) (or (kept p) (joined p)) no ts (left_join_at read p ts) _
+                  (λ e. (left_join_reads p ts, kept_apart p ts (word_lacks Optional Filter refl ts e) (no_brace Optional ts e)))
+                  (λ o. (
+                    left_join_apart part p ts o,
+                    or_by (is_word Filter) (kept p) (joined p) no ts (filtered_at p ts) (and_pattern_at read p ts)
+                        (λ e. (filtered_reads p ts, joined_apart p ts (no_brace Filter ts e)))
+                        (λ f. (then_blocked (filter condition) _ no ts (filter_apart condition no ts f), and_reads p ts)),
+                  )),
+            )),
+      ))
 
   operation_reads : (ts : List Placed) → Reads (then part (λ p. operator part p)) no ts (operation_at read ts)
   unfolding operation_at
@@ -279,17 +289,25 @@ module _ (part : Part Placed Pattern) (read : Read Pattern) (reads : (ts : List 
   unfolding content content_at
   content_reads ts =
       or_by is_operand triple (or (select part) (or operations (give patterns.Empty))) begins_content ts (triple_at ts) _
-      (λ e. (closed_reads triple begins_content ts _ (triple_reads ts),
-      or_apart (select part) (or operations (give patterns.Empty)) begins_content ts ts (select_apart part begins_content ts (parted is_operand (is_word Select) (operand_word Select) ts e))
-      (or_apart operations (give patterns.Empty) begins_content ts ts (operations_apart ts (parted is_operand (is_sign OpenBrace) (operand_sign OpenBrace) ts e)) (empty_apart ts (first_content ts e)))))
-      (λ n. (triple_apart begins_content ts n,
-      or_by (is_word Select) (select part) (or operations (give patterns.Empty)) begins_content ts (select_at read ts) _
-      (λ e. (closed_reads (select part) begins_content ts _ (select_reads ts),
-      or_apart operations (give patterns.Empty) begins_content ts ts (operations_apart ts (no_brace Select ts e)) (empty_apart ts (second_content ts e))))
-      (λ s. (select_apart part begins_content ts s,
-      or_by (is_sign OpenBrace) operations (give patterns.Empty) begins_content ts (operation_at read ts) _
-      (λ e. (closed_reads operations begins_content ts _ (operation_reads ts), empty_apart ts (third_content ts e)))
-      (λ b. (operations_apart ts b, give_reads patterns.Empty begins_content ts))))))
+      (λ e. (
+        closed_reads triple begins_content ts _ (triple_reads ts),
+        or_apart (select part) (or operations (give patterns.Empty)) begins_content ts ts (select_apart part begins_content ts (parted is_operand (is_word Select) (operand_word Select) ts e))
+            (or_apart operations (give patterns.Empty) begins_content ts ts (operations_apart ts (parted is_operand (is_sign OpenBrace) (operand_sign OpenBrace) ts e)) (empty_apart ts (first_content ts e))),
+      ))
+      (λ n. (
+        triple_apart begins_content ts n,
+        or_by (is_word Select) (select part) (or operations (give patterns.Empty)) begins_content ts (select_at read ts) _
+            (λ e. (
+              closed_reads (select part) begins_content ts _ (select_reads ts),
+              or_apart operations (give patterns.Empty) begins_content ts ts (operations_apart ts (no_brace Select ts e)) (empty_apart ts (second_content ts e)),
+            ))
+            (λ s. (
+              select_apart part begins_content ts s,
+              or_by (is_sign OpenBrace) operations (give patterns.Empty) begins_content ts (operation_at read ts) _
+                  (λ e. (closed_reads operations begins_content ts _ (operation_reads ts), empty_apart ts (third_content ts e)))
+                  (λ b. (operations_apart ts b, give_reads patterns.Empty begins_content ts)),
+            )),
+      ))
 
   no_close : (t : Placed) → begins_content t ≡ true → is_sign CloseBrace t ≡ false
   no_close t e = either is_operand (λ u. is_word Select u || is_sign OpenBrace u) t e (operand_sign CloseBrace t) (λ h. either (is_word Select) (is_sign OpenBrace) t h (word_sign Select CloseBrace t) (signs OpenBrace CloseBrace refl t))
@@ -393,11 +411,15 @@ first_same t ts (Some x) = refl
 header_same : (ts : List Placed) → header_at ts ≡ header_by ts
 unfolding header_at variables_at
 header_same [] = refl
-header_same (t ∷ ts) = by_first (variable_of t.token) refl
+header_same (t ∷ ts) = by_token t.token t.place
   where
-    by_first : (o : Option (List ℕ)) → variable_of t.token ≡ o → header_at (t ∷ ts) ≡ header_by (t ∷ ts)
-    by_first None e = rw e refl
-    by_first (Some x) e = rw e refl
+    by_token : (k : Token) (place : ℕ) → header_at (record { token = k; place = place } ∷ ts) ≡ header_by (record { token = k; place = place } ∷ ts)
+    unfolding header_at variables_at
+    by_token (tokens.Sign s) place = refl
+    by_token (tokens.Word w) place = refl
+    by_token (tokens.Var x) place = refl
+    by_token (tokens.Iri i) place = refl
+    by_token (tokens.Literal l) place = refl
 
 header_reads : (ts : List Placed) → Reads header is_variable_token ts (header_at ts)
 unfolding header

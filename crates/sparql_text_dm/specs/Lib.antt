@@ -1,7 +1,10 @@
 pub mod Words
 pub mod Grammar
 pub mod Reading
+pub mod Following
+pub mod Pairs
 pub mod Depth
 pub mod Answer
 pub mod Telling
+pub mod NewNames
 pub mod Written

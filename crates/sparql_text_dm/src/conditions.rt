@@ -1,9 +1,11 @@
 // Conditions.
-ghost use Rattle.std.specs.Prelude.{◌≡◌, length};
+ghost use Rattle.std.specs.Prelude.{Ok};
 ghost use Rattle.grammar_dm.specs.Exits.{Gives};
-ghost use Rattle.sparql_text_dm.specs.Reading.{all_proper_at, bound_at, choice_at, condition_at, connected_at, filter_at, grouped_at, join_condition_at, negation_at, proper_at, same_term_at, terms_at, true_at, true_or_at};
+ghost use Rattle.sparql_text_dm.specs.Following.{GoesOn, ended_by};
+ghost use Rattle.sparql_text_dm.specs.Grammar.{connected};
+ghost use Rattle.sparql_text_dm.specs.Reading.{all_proper_at, bound_at, condition_at, connected_at, filter_at, grouped_at, join_condition_at, negation_at, proper_at, same_term_at, terms_at, true_at, true_or_at};
 
-use crate::connective::next_connective;
+use crate::connective::{Connective, next_connective};
 use crate::makers;
 use crate::reader::{Read, sign, starts_with, starts_with_sign, term, variable, word};
 use grammar_dm::ReadError;
@@ -53,7 +55,37 @@ fn truth(alloc: Global, tokens: &[Placed]) -> Read<'_, Boxed<Condition>>
     Ok((makers::truth(alloc)?, rest))
 }
 
-// A condition of so many levels at most below `true`.
+fn negated(alloc: Global, part: Read<'_, Boxed<Condition>>) -> Read<'_, Boxed<Condition>>
+    ensures { GoesOn part.entry (λ f. Ok (Condition.Not f.0, f.1)) result }
+{
+    let (part, rest) = part?;
+    Ok((makers::not(alloc, part)?, rest))
+}
+
+// The two parts, of which the second was read behind the mark.
+fn joined(
+    alloc: Global,
+    mark: Connective,
+    left: Boxed<Condition>,
+    right: Read<'_, Boxed<Condition>>,
+) -> Read<'_, Boxed<Condition>>
+    ensures { GoesOn right.entry (λ g. Ok (connected mark left g.0, g.1)) result }
+{
+    let (right, rest) = right?;
+    Ok((makers::connected(alloc, mark, left, right)?, rest))
+}
+
+// What was read, where a closing parenthesis stands behind it.
+fn closed(content: Read<'_, Boxed<Condition>>) -> Read<'_, Boxed<Condition>>
+    ensures { GoesOn content.entry (ended_by Sign.CloseParenthesis) result }
+{
+    let (found, rest) = content?;
+    let rest = sign(rest, Sign::CloseParenthesis)?;
+    Ok((found, rest))
+}
+
+// A condition of so many levels at most below `true`. As with patterns, what is read behind the recursion is read by functions of
+// their own.
 #[cycle(condition)]
 fn condition_within(alloc: Global, levels: usize, tokens: &[Placed]) -> Read<'_, Boxed<Condition>>
     ensures { Gives (λ x. (x.0, x.1.now)) result (true_or_at (proper_at levels) tokens.now) }
@@ -71,8 +103,7 @@ fn negation(alloc: Global, levels: usize, tokens: &[Placed]) -> Read<'_, Boxed<C
     ensures { Gives (λ x. (x.0, x.1.now)) result (negation_at (true_or_at (proper_at levels)) tokens.now) }
 {
     let rest = sign(tokens, Sign::Not)?;
-    let (part, rest) = condition_within(alloc, levels, rest)?;
-    Ok((makers::not(alloc, part)?, rest))
+    negated(alloc, condition_within(alloc, levels, rest))
 }
 
 // Two conditions and the mark between them.
@@ -83,19 +114,7 @@ fn connected(alloc: Global, levels: usize, tokens: &[Placed]) -> Read<'_, Boxed<
 {
     let (left, rest) = condition_within(alloc, levels, tokens)?;
     let (mark, rest) = next_connective(rest)?;
-    let (right, rest) = condition_within(alloc, levels, rest)?;
-    Ok((makers::connected(alloc, mark, left, right)?, rest))
-}
-
-#[cycle(condition)]
-fn choice(alloc: Global, levels: usize, tokens: &[Placed]) -> Read<'_, Boxed<Condition>>
-    ensures { Gives (λ x. (x.0, x.1.now)) result (choice_at (true_or_at (proper_at levels)) tokens.now) }
-{
-    if starts_with_sign(tokens, Sign::Not) {
-        negation(alloc, levels, tokens)
-    } else {
-        connected(alloc, levels, tokens)
-    }
+    joined(alloc, mark, left, condition_within(alloc, levels, rest))
 }
 
 // A condition in parentheses.
@@ -105,9 +124,11 @@ fn grouped(alloc: Global, levels: usize, tokens: &[Placed]) -> Read<'_, Boxed<Co
     ensures { Gives (λ x. (x.0, x.1.now)) result (grouped_at (true_or_at (proper_at levels)) tokens.now) }
 {
     let rest = sign(tokens, Sign::OpenParenthesis)?;
-    let (found, rest) = choice(alloc, levels, rest)?;
-    let rest = sign(rest, Sign::CloseParenthesis)?;
-    Ok((found, rest))
+    if starts_with_sign(rest, Sign::Not) {
+        closed(negation(alloc, levels, rest))
+    } else {
+        closed(connected(alloc, levels, rest))
+    }
 }
 
 // A condition of so many levels at most, which is not `true`.

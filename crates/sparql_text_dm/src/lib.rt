@@ -7,10 +7,12 @@ mod connective;
 mod depth;
 mod error;
 mod makers;
+mod pairing;
 mod parsed;
 mod patterns;
 mod query;
 mod reader;
+mod selection;
 mod targets;
 
 pub use error::SparqlError;

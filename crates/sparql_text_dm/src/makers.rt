@@ -1,8 +1,10 @@
 // Conditions and patterns in boxes, made of their parts.
 ghost use Rattle.std.specs.Prelude.{◌≡◌, IfOk};
 ghost use Rattle.sparql_text_dm.specs.Grammar.{connected};
+ghost use Rattle.sparql_text_dm.specs.Pairs.{paired};
 
 use crate::connective::Connective;
+use crate::pairing::Pairing;
 use names_dm::Var;
 use pattern_dm::{Condition, Operand, Pattern};
 use solutions_dm::Renames;
@@ -68,34 +70,19 @@ pub(crate) fn triple(
     Boxed::new(alloc, Pattern::Triple(subject, predicate, object))
 }
 
-pub(crate) fn both(
+pub(crate) fn paired(
     alloc: Global,
+    pairing: Pairing,
     left: Boxed<Pattern>,
     right: Boxed<Pattern>,
 ) -> Result<Boxed<Pattern>, AllocError>
-    ensures { IfOk result (λ made. made ≡ Pattern.And left right) }
+    ensures { IfOk result (λ made. made ≡ paired pairing left right) }
 {
-    Boxed::new(alloc, Pattern::And(left, right))
-}
-
-pub(crate) fn union(
-    alloc: Global,
-    left: Boxed<Pattern>,
-    right: Boxed<Pattern>,
-) -> Result<Boxed<Pattern>, AllocError>
-    ensures { IfOk result (λ made. made ≡ Pattern.Union left right) }
-{
-    Boxed::new(alloc, Pattern::Union(left, right))
-}
-
-pub(crate) fn minus(
-    alloc: Global,
-    left: Boxed<Pattern>,
-    right: Boxed<Pattern>,
-) -> Result<Boxed<Pattern>, AllocError>
-    ensures { IfOk result (λ made. made ≡ Pattern.Minus left right) }
-{
-    Boxed::new(alloc, Pattern::Minus(left, right))
+    match pairing {
+        Pairing::And => Boxed::new(alloc, Pattern::And(left, right)),
+        Pairing::Union => Boxed::new(alloc, Pattern::Union(left, right)),
+        Pairing::Minus => Boxed::new(alloc, Pattern::Minus(left, right)),
+    }
 }
 
 pub(crate) fn left_join(

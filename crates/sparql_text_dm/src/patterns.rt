@@ -1,14 +1,18 @@
 // Patterns.
-ghost use Rattle.std.specs.Prelude.{◌≡◌, length};
+ghost use Rattle.std.specs.Prelude.{Ok};
 ghost use Rattle.grammar_dm.specs.Exits.{Gives};
+ghost use Rattle.sparql_text_dm.specs.Following.{GoesOn, empty_at, ended_by};
 ghost use Rattle.sparql_text_dm.specs.Reading.{and_pattern_at, content_at, filtered_at, left_join_at, minus_at, operation_at, operator_at, optional_part_at, pattern_at, select_at, triple_at, union_at};
+ghost use Rattle.sparql_text_dm.specs.Pairs.{paired};
 
 use crate::conditions::{filter, join_condition};
 use crate::makers;
+use crate::pairing::Pairing;
 use crate::reader::{Read, sign, starts_with, starts_with_operand, starts_with_sign, term, word};
 use crate::targets::targets;
 use grammar_dm::ReadError;
 use pattern_dm::{Condition, Pattern};
+use solutions_dm::Renames;
 use sparql_tokens_dm::{Keyword, Placed, Sign};
 use sqlite_items::Boxed;
 use std::alloc::Global;
@@ -32,6 +36,18 @@ fn filtered(alloc: Global, part: Boxed<Pattern>, tokens: &[Placed]) -> Read<'_, 
     Ok((makers::filter(alloc, part, condition)?, rest))
 }
 
+// The columns of the part under other names.
+fn selected(
+    alloc: Global,
+    renames: Renames,
+    part: Read<'_, Boxed<Pattern>>,
+) -> Read<'_, Boxed<Pattern>>
+    ensures { GoesOn part.entry (λ p. Ok (Pattern.Select p.0 renames, p.1)) result }
+{
+    let (part, rest) = part?;
+    Ok((makers::select(alloc, part, renames)?, rest))
+}
+
 #[cycle(pattern)]
 #[tactic(auto, unfolding(crate::specs::Reading::select_at))]
 fn select(alloc: Global, levels: usize, tokens: &[Placed]) -> Read<'_, Boxed<Pattern>>
@@ -40,8 +56,7 @@ fn select(alloc: Global, levels: usize, tokens: &[Placed]) -> Read<'_, Boxed<Pat
     let rest = word(tokens, Keyword::Select)?;
     let (renames, rest) = targets(alloc, rest)?;
     let rest = word(rest, Keyword::Where)?;
-    let (part, rest) = pattern(alloc, levels, rest)?;
-    Ok((makers::select(alloc, part, renames)?, rest))
+    selected(alloc, renames, pattern(alloc, levels, rest))
 }
 
 // The second part of a left join, and its condition.
@@ -76,6 +91,19 @@ fn left_join(
     Ok((makers::left_join(alloc, left, right, condition)?, rest))
 }
 
+// The two parts, of which the second was read behind the first.
+fn paired(
+    alloc: Global,
+    pairing: Pairing,
+    left: Boxed<Pattern>,
+    right: Read<'_, Boxed<Pattern>>,
+) -> Read<'_, Boxed<Pattern>>
+    ensures { GoesOn right.entry (λ q. Ok (paired pairing left q.0, q.1)) result }
+{
+    let (right, rest) = right?;
+    Ok((makers::paired(alloc, pairing, left, right)?, rest))
+}
+
 #[cycle(pattern)]
 #[tactic(auto, unfolding(crate::specs::Reading::union_at))]
 fn union(
@@ -87,8 +115,7 @@ fn union(
     ensures { Gives (λ x. (x.0, x.1.now)) result (union_at (pattern_at levels) left tokens.now) }
 {
     let rest = word(tokens, Keyword::Union)?;
-    let (right, rest) = pattern(alloc, levels, rest)?;
-    Ok((makers::union(alloc, left, right)?, rest))
+    paired(alloc, Pairing::Union, left, pattern(alloc, levels, rest))
 }
 
 #[cycle(pattern)]
@@ -102,8 +129,7 @@ fn minus(
     ensures { Gives (λ x. (x.0, x.1.now)) result (minus_at (pattern_at levels) left tokens.now) }
 {
     let rest = word(tokens, Keyword::Minus)?;
-    let (right, rest) = pattern(alloc, levels, rest)?;
-    Ok((makers::minus(alloc, left, right)?, rest))
+    paired(alloc, Pairing::Minus, left, pattern(alloc, levels, rest))
 }
 
 #[cycle(pattern)]
@@ -116,41 +142,34 @@ fn both(
 ) -> Read<'_, Boxed<Pattern>>
     ensures { Gives (λ x. (x.0, x.1.now)) result (and_pattern_at (pattern_at levels) left tokens.now) }
 {
-    let (right, rest) = pattern(alloc, levels, tokens)?;
-    Ok((makers::both(alloc, left, right)?, rest))
+    paired(alloc, Pairing::And, left, pattern(alloc, levels, tokens))
 }
 
-// What stands behind the first part in braces.
+// A pattern in braces, and what stands behind it.
 #[cycle(pattern)]
-#[tactic(auto, unfolding(crate::specs::Reading::operator_at))]
-fn operator(
-    alloc: Global,
-    levels: usize,
-    left: Boxed<Pattern>,
-    tokens: &[Placed],
-) -> Read<'_, Boxed<Pattern>>
-    ensures { Gives (λ x. (x.0, x.1.now)) result (operator_at (pattern_at levels) left tokens.now) }
-{
-    if starts_with(tokens, Keyword::Union) {
-        union(alloc, levels, left, tokens)
-    } else if starts_with(tokens, Keyword::Minus) {
-        minus(alloc, levels, left, tokens)
-    } else if starts_with(tokens, Keyword::Optional) {
-        left_join(alloc, levels, left, tokens)
-    } else if starts_with(tokens, Keyword::Filter) {
-        filtered(alloc, left, tokens)
-    } else {
-        both(alloc, levels, left, tokens)
-    }
-}
-
-#[cycle(pattern)]
-#[tactic(auto, unfolding(crate::specs::Reading::operation_at))]
+#[tactic(auto, unfolding(crate::specs::Reading::operation_at, crate::specs::Reading::operator_at))]
 fn operation(alloc: Global, levels: usize, tokens: &[Placed]) -> Read<'_, Boxed<Pattern>>
     ensures { Gives (λ x. (x.0, x.1.now)) result (operation_at (pattern_at levels) tokens.now) }
 {
     let (left, rest) = pattern(alloc, levels, tokens)?;
-    operator(alloc, levels, left, rest)
+    if starts_with(rest, Keyword::Union) {
+        union(alloc, levels, left, rest)
+    } else if starts_with(rest, Keyword::Minus) {
+        minus(alloc, levels, left, rest)
+    } else if starts_with(rest, Keyword::Optional) {
+        left_join(alloc, levels, left, rest)
+    } else if starts_with(rest, Keyword::Filter) {
+        filtered(alloc, left, rest)
+    } else {
+        both(alloc, levels, left, rest)
+    }
+}
+
+// Nothing.
+fn empty(alloc: Global, tokens: &[Placed]) -> Read<'_, Boxed<Pattern>>
+    ensures { Gives (λ x. (x.0, x.1.now)) result (empty_at tokens.now) }
+{
+    Ok((makers::empty(alloc)?, tokens))
 }
 
 // What stands in braces.
@@ -166,11 +185,21 @@ fn content(alloc: Global, levels: usize, tokens: &[Placed]) -> Read<'_, Boxed<Pa
     } else if starts_with_sign(tokens, Sign::OpenBrace) {
         operation(alloc, levels, tokens)
     } else {
-        Ok((makers::empty(alloc)?, tokens))
+        empty(alloc, tokens)
     }
 }
 
-/// A pattern of so many levels at most.
+// What was read, where a closing brace stands behind it.
+fn closed(content: Read<'_, Boxed<Pattern>>) -> Read<'_, Boxed<Pattern>>
+    ensures { GoesOn content.entry (ended_by Sign.CloseBrace) result }
+{
+    let (found, rest) = content?;
+    let rest = sign(rest, Sign::CloseBrace)?;
+    Ok((found, rest))
+}
+
+/// A pattern of so many levels at most. What is read behind the recursion is read by functions of their own, so that 2,048 levels
+/// take little of the stack.
 #[cycle(pattern)]
 pub(crate) fn pattern(alloc: Global, levels: usize, tokens: &[Placed]) -> Read<'_, Boxed<Pattern>>
     ensures { Gives (λ x. (x.0, x.1.now)) result (pattern_at levels tokens.now) }
@@ -179,7 +208,5 @@ pub(crate) fn pattern(alloc: Global, levels: usize, tokens: &[Placed]) -> Read<'
         return Err(ReadError::At(tokens, false));
     }
     let rest = sign(tokens, Sign::OpenBrace)?;
-    let (found, rest) = content(alloc, levels - 1, rest)?;
-    let rest = sign(rest, Sign::CloseBrace)?;
-    Ok((found, rest))
+    closed(content(alloc, levels - 1, rest))
 }

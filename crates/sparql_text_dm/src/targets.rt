@@ -1,42 +1,32 @@
 // The targets of a selection.
 ghost use Rattle.std.specs.Prelude.{◌≡◌, length};
 ghost use Rattle.grammar_dm.specs.Exits.{Gives};
-ghost use Rattle.solutions_dm.specs.Selects as selects;
 ghost use Rattle.sparql_text_dm.specs.Reading.{all_targets_at, begins_target, new_name_at, other_name_at, other_target_at, same_target_at, target_at};
 ghost use Rattle.sparql_text_dm.specs.Words.{named, new_name_of, other_name_of};
 
-use crate::reader::{Read, has_sign, has_variable, sign, starts_with_sign, variable, variable_of, word};
+use crate::reader::{
+    Read, has_sign, has_variable, sign, starts_with_sign, variable, variable_of, word,
+};
+use crate::selection::Selection;
 use grammar_dm::ReadError;
 use names_dm::Var;
 use solutions_dm::{Rename, Renames};
 use sparql_tokens_dm::{Keyword, Placed, Sign};
 use std::alloc::Global;
-use value_dm::{Sequence, TryCopy, same};
-
-// Whether one of the renames has this target.
-fn is_target(renames: &[Rename], name: &Var) -> bool
-    ensures { result ≡ selects.is_target renames.now name.now }
-{
-    for rename in renames {
-        if same(&rename.to, name) {
-            return true;
-        }
-    }
-    false
-}
+use value_dm::{TryCopy, same};
 
 // The variable that the token is, where it is no target.
-fn new_name_of<'a>(taken: &[Rename], token: &'a Placed) -> Option<&'a Var>
+fn new_name_of<'a>(taken: &Selection, token: &'a Placed) -> Option<&'a Var>
     ensures { named result ≡ new_name_of taken.now token.now.token }
 {
     match variable_of(token) {
-        Some(name) => { if is_target(taken, name) { None } else { Some(name) } }
+        Some(name) => { if taken.has(name) { None } else { Some(name) } }
         None => None,
     }
 }
 
 // The same, where it isn't this variable.
-fn other_name_of<'a>(taken: &[Rename], from: &Var, token: &'a Placed) -> Option<&'a Var>
+fn other_name_of<'a>(taken: &Selection, from: &Var, token: &'a Placed) -> Option<&'a Var>
     ensures { named result ≡ other_name_of taken.now from.now token.now.token }
 {
     match new_name_of(taken, token) {
@@ -45,7 +35,7 @@ fn other_name_of<'a>(taken: &[Rename], from: &Var, token: &'a Placed) -> Option<
     }
 }
 
-fn new_name<'a>(alloc: Global, taken: &[Rename], tokens: &'a [Placed]) -> Read<'a, Var>
+fn new_name<'a>(alloc: Global, taken: &Selection, tokens: &'a [Placed]) -> Read<'a, Var>
     ensures { Gives (λ x. (x.0, x.1.now)) result (new_name_at taken.now tokens.now) }
 {
     match tokens {
@@ -59,7 +49,7 @@ fn new_name<'a>(alloc: Global, taken: &[Rename], tokens: &'a [Placed]) -> Read<'
 
 fn other_name<'a>(
     alloc: Global,
-    taken: &[Rename],
+    taken: &Selection,
     from: &Var,
     tokens: &'a [Placed],
 ) -> Read<'a, Var>
@@ -75,7 +65,7 @@ fn other_name<'a>(
 }
 
 #[tactic(auto, unfolding(crate::specs::Reading::same_target_at))]
-fn same_target<'a>(alloc: Global, taken: &[Rename], tokens: &'a [Placed]) -> Read<'a, Rename>
+fn same_target<'a>(alloc: Global, taken: &Selection, tokens: &'a [Placed]) -> Read<'a, Rename>
     ensures { Gives (λ x. (x.0, x.1.now)) result (same_target_at taken.now tokens.now) }
 {
     let (to, rest) = new_name(alloc, taken, tokens)?;
@@ -84,7 +74,7 @@ fn same_target<'a>(alloc: Global, taken: &[Rename], tokens: &'a [Placed]) -> Rea
 }
 
 #[tactic(auto, unfolding(crate::specs::Reading::other_target_at))]
-fn other_target<'a>(alloc: Global, taken: &[Rename], tokens: &'a [Placed]) -> Read<'a, Rename>
+fn other_target<'a>(alloc: Global, taken: &Selection, tokens: &'a [Placed]) -> Read<'a, Rename>
     ensures { Gives (λ x. (x.0, x.1.now)) result (other_target_at taken.now tokens.now) }
 {
     let rest = sign(tokens, Sign::OpenParenthesis)?;
@@ -95,7 +85,7 @@ fn other_target<'a>(alloc: Global, taken: &[Rename], tokens: &'a [Placed]) -> Re
     Ok((Rename { from, to }, rest))
 }
 
-fn target<'a>(alloc: Global, taken: &[Rename], tokens: &'a [Placed]) -> Read<'a, Rename>
+fn target<'a>(alloc: Global, taken: &Selection, tokens: &'a [Placed]) -> Read<'a, Rename>
     ensures { Gives (λ x. (x.0, x.1.now)) result (target_at taken.now tokens.now) }
 {
     if starts_with_sign(tokens, Sign::OpenParenthesis) {
@@ -112,20 +102,20 @@ fn begins_target(token: &Placed) -> bool
 }
 
 /// The targets, of which there is one at least, and no two have one new name.
-#[tactic(auto, using(crate::proofs::Targets::targets_loop))]
+#[tactic(auto, using(crate::proofs::TargetLoops::targets_loop))]
 pub(crate) fn targets(alloc: Global, tokens: &[Placed]) -> Read<'_, Renames>
     ensures { Gives (λ x. (x.0, x.1.now)) result (all_targets_at tokens.now) }
 {
-    let mut found = Sequence::new(alloc);
-    let (first, mut rest) = target(alloc, &[], tokens)?;
-    found.push(first)?;
+    let mut found = Selection::new(alloc);
+    let (first, mut rest) = target(alloc, &found, tokens)?;
+    found = found.with(alloc, first)?;
     'targets: while let Some((next, _)) = rest.split_first() {
         if !begins_target(next) {
             break;
         }
-        let (more, after) = target(alloc, found.as_slice(), rest)?;
-        found.push(more)?;
+        let (more, after) = target(alloc, &found, rest)?;
+        found = found.with(alloc, more)?;
         rest = after;
     }
-    Ok((found, rest))
+    Ok((found.into_renames(), rest))
 }

@@ -2,4 +2,6 @@
 #![tactic(auto)]
 
 #[cfg(test)]
+mod over_graphs;
+#[cfg(test)]
 mod tests;

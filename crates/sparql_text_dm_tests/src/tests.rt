@@ -271,9 +271,16 @@ const BYTES: [(&[u8], &str); 4] = [
     (b"SELECT DISTINCT ?a WHERE { } \xc3", "BadPattern(30)"),
 ];
 
-fn nested(alloc: Global, open: &str, times: usize, end: &str) -> Result<String, Fail> {
+fn nested_from(
+    alloc: Global,
+    start: &str,
+    open: &str,
+    times: usize,
+    end: &str,
+) -> Result<String, Fail> {
     let mut text = String::new(alloc);
     text.push_str("SELECT DISTINCT ?a WHERE ")?;
+    text.push_str(start)?;
     for _ in 0..times {
         text.push_str(open)?;
     }
@@ -281,7 +288,26 @@ fn nested(alloc: Global, open: &str, times: usize, end: &str) -> Result<String, 
     Ok(text)
 }
 
+fn nested(alloc: Global, open: &str, times: usize, end: &str) -> Result<String, Fail> {
+    nested_from(alloc, "", open, times, end)
+}
+
 // The text of so many openings, each inside the ones before it, and their ends.
+fn deep_from(
+    alloc: Global,
+    start: &str,
+    open: &str,
+    times: usize,
+    middle: &str,
+    close: &str,
+) -> Result<String, Fail> {
+    let mut text = nested_from(alloc, start, open, times, middle)?;
+    for _ in 0..times {
+        text.push_str(close)?;
+    }
+    Ok(text)
+}
+
 fn deep(
     alloc: Global,
     open: &str,
@@ -289,11 +315,7 @@ fn deep(
     middle: &str,
     close: &str,
 ) -> Result<String, Fail> {
-    let mut text = nested(alloc, open, times, middle)?;
-    for _ in 0..times {
-        text.push_str(close)?;
-    }
-    Ok(text)
+    deep_from(alloc, "", open, times, middle, close)
 }
 
 #[test]
@@ -320,24 +342,44 @@ fn depths(rt: HostRuntime) -> Result<(), Fail> {
     Ok(())
 }
 
+// Patterns inside one another, 2,048 braces deep: each has an opening, what stands in the innermost, a closing, and the number.
+const PATTERNS: [(&str, &str, &str, usize); 6] = [
+    ("{{}", "{}", "}", 2047),
+    ("{{}UNION", "{}", "}", 2047),
+    ("{{}MINUS", "{}", "}", 2047),
+    ("{", "{}", "{}}", 2047),
+    ("{SELECT ?a WHERE", "{}", "}", 2047),
+    ("{{}OPTIONAL{", "{}", "}}", 1023),
+];
+
+#[test]
+fn deep_patterns(rt: HostRuntime) -> Result<(), Fail> {
+    for (open, middle, close, times) in PATTERNS {
+        let text = deep(rt.alloc(), open, times, middle, close)?;
+        let read = told(rt.alloc(), text.as_bytes())?;
+        assert!(rt; read.as_str().starts_with("SELECT DISTINCT ?a WHERE { "));
+    }
+    Ok(())
+}
+
+// The same of conditions.
+const CONDITIONS: [(&str, &str, &str); 3] = [
+    ("(!", "true", ")"),
+    ("(true&&", "true", ")"),
+    ("(", "true", "||true)"),
+];
+
 #[test]
 fn deep_conditions(rt: HostRuntime) -> Result<(), Fail> {
     let alloc = rt.alloc();
-    let start = "SELECT DISTINCT ?a WHERE {{}FILTER(";
-    let mut text = String::new(alloc);
-    text.push_str(start)?;
-    for _ in 0..2046 {
-        text.push_str("(!")?;
+    for (open, middle, close) in CONDITIONS {
+        let mut text = deep_from(alloc, "{{}FILTER(", open, 2046, middle, close)?;
+        text.push_str(")}")?;
+        let read = told(alloc, text.as_bytes())?;
+        assert!(rt;
+            read.as_str()
+                .starts_with("SELECT DISTINCT ?a WHERE { { } FILTER ( ( ")
+        );
     }
-    text.push_str("true")?;
-    for _ in 0..2046 {
-        text.push_str(")")?;
-    }
-    text.push_str(")}")?;
-    let read = told(alloc, text.as_bytes())?;
-    assert!(rt;
-        read.as_str()
-            .starts_with("SELECT DISTINCT ?a WHERE { { } FILTER ( ( ! ( ! ")
-    );
     Ok(())
 }

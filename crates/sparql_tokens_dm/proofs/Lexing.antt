@@ -1,16 +1,14 @@
 -- The loop over tokens.
-use Rattle.std.proofs.Common.{◌≡◌, ◌≢◌, ℕ, ◌+◌, ◌-◌, List, [], ◌∷◌, ◌++◌, length, take, Option, Some, None, refl, sym, ap, subst, ◌∙◌, append_assoc, arith, encode_utf8_all, chars, inl, inr, ◌⊎◌}
-use Rattle.std.specs.Prelude.{IsUtf8}
+use Rattle.std.proofs.Common.{◌≡◌, ℕ, ◌+◌, ◌-◌, List, [], ◌∷◌, ◌++◌, length, Option, Some, None, refl, sym, ap, subst, ◌∙◌, append_assoc, arith, encode_utf8_all, chars, inl, inr}
 use Rattle.std.specs.Option.{unwrap_or}
-use Rattle.std.specs.Str.{IsValidUpTo}
 use Rattle.std.proofs.lemmas.List.{append-nil}
 use Rattle.sparql_tokens_dm.specs.declared.token.Token.{Token}
 use Rattle.sparql_tokens_dm.specs.declared.token.Placed.{Placed}
-use Rattle.sparql_tokens_dm.specs.Tokens.{AreTokens, AreTokensOf, Consists, StandsToken, stop_behind}
+use Rattle.sparql_tokens_dm.specs.Tokens.{AreTokens, AreTokensOf, Consists, stop_behind}
 use Rattle.sparql_tokens_dm.specs.Tokens.Consists.{nothing, between, token}
 use Rattle.sparql_tokens_dm.specs.Views.{IsTextFront}
-use Rattle.sparql_tokens_dm.specs.Scanning.{Lexeme, lexeme}
-use Rattle.sparql_tokens_dm.specs.Scanning.Lexeme.{Between, Found, Bad}
+use Rattle.sparql_tokens_dm.specs.Scanning.{lexeme}
+use Rattle.sparql_tokens_dm.specs.Scanning.Lexeme.{Between, Found}
 use Rattle.sparql_tokens_dm.proofs.Scans.{space_is, token_is}
 
 -- what was found of the text, whatever its rest consists of

@@ -1,5 +1,5 @@
 -- What is found at the front of a text is what stands there, and the other way round.
-use Rattle.std.proofs.Common.{◌≡◌, ◌≢◌, ◌∙◌, ℕ, ◌+◌, ◌<◌, ◌≤◌, List, [], ◌∷◌, ◌++◌, length, Bool, true, false, Option, Some, None, refl, sym, ap, subst, arith, cond}
+use Rattle.std.proofs.Common.{◌≡◌, ◌≢◌, ◌∙◌, ℕ, ◌<◌, List, [], ◌∷◌, ◌++◌, length, Bool, true, false, Option, Some, None, refl, sym, ap, subst, arith, cond}
 use Rattle.std.specs.Prelude.{◌==◌, ◌||◌}
 use Rattle.std.proofs.lemmas.Bool.{eqb-true}
 use Rattle.names_dm.specs.Characters.{is_ascii_letter}
@@ -7,7 +7,7 @@ use Rattle.names_dm.specs.Literals.{LiteralValue}
 use Rattle.names_dm.specs.Terminals.{is_variable_character}
 use Rattle.names_dm.specs.declared.term.Term.TheVariants as terms
 use Rattle.ntriples_reader_dm.specs.Front.{IsFront, as_term}
-use Rattle.ntriples_reader_dm.specs.Grammar.{iri_ref, literal}
+use Rattle.ntriples_reader_dm.specs.Grammar.{literal}
 use Rattle.ntriples_reader_dm.specs.Reading.{iri_at, longest_literal}
 use Rattle.ntriples_reader_dm.specs.Views.{EndsWith}
 use Rattle.ntriples_reader_dm.proofs.Fronts.{ends_all, ends_length, ends_trans, iri_begins, iri_found, iri_front, literal_begins, literal_found, literal_front}

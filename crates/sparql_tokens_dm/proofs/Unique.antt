@@ -1,15 +1,14 @@
 -- A text has one list of tokens, and one end of it.
-use Rattle.std.proofs.Common.{◌≡◌, ◌≢◌, ℕ, ◌+◌, ◌-◌, ◌<◌, List, [], ◌∷◌, length, take, Option, Some, None, refl, sym, ap, subst, ◌∙◌, arith, encode_utf8_all, chars, inl, inr, ◌⊎◌}
+use Rattle.std.proofs.Common.{◌≡◌, ℕ, ◌+◌, ◌-◌, List, [], ◌∷◌, length, take, Option, Some, None, refl, sym, ap, subst, ◌∙◌, arith, encode_utf8_all, chars, inl, inr}
 use Rattle.std.specs.Prelude.{IsUtf8}
 use Rattle.std.specs.Str.{IsValidUpTo}
-use Rattle.std.specs.Str.Lossy.{utf8_valid_len}
 use Rattle.std.proofs.lemmas.Str.{utf8_valid_len-IsUtf8, utf8_valid_len-IsValidUpTo}
 use Rattle.sparql_tokens_dm.specs.declared.token.Token.{Token}
 use Rattle.sparql_tokens_dm.specs.declared.token.Placed.{Placed}
-use Rattle.sparql_tokens_dm.specs.Tokens.{AreOnlyTokens, AreTokens, AreTokensOf, Consists, IsNoToken, IsSpace, StandsToken, stop_behind}
+use Rattle.sparql_tokens_dm.specs.Tokens.{AreOnlyTokens, AreTokens, AreTokensOf, Consists, IsNoToken, stop_behind}
 use Rattle.sparql_tokens_dm.specs.Tokens.Consists.{nothing, between, token}
-use Rattle.sparql_tokens_dm.specs.Scanning.{Lexeme, lexeme}
-use Rattle.sparql_tokens_dm.specs.Scanning.Lexeme.{Between, Found, Bad}
+use Rattle.sparql_tokens_dm.specs.Scanning.{lexeme}
+use Rattle.sparql_tokens_dm.specs.Scanning.Lexeme.{Between, Found}
 use Rattle.sparql_tokens_dm.proofs.Scans.{bad_is, space_found, token_found}
 
 between_one : (a b : List ℕ) → Between a ≡ Between b → a ≡ b

@@ -1,5 +1,5 @@
 -- A run of the characters of names is a variable's name where it isn't empty.
-use Rattle.std.proofs.Common.{◌≡◌, ◌∙◌, ℕ, List, [], ◌∷◌, Bool, true, refl, sym, ap, subst}
+use Rattle.std.proofs.Common.{◌≡◌, ◌∙◌, ℕ, List, [], ◌∷◌, true, refl, sym, ap, subst}
 use Rattle.std.specs.List.{list_all}
 use Rattle.names_dm.specs.Terminals.{is_variable, is_variable_character}
 use Rattle.ddl_tokens_dm.specs.Scanning.{run_of}

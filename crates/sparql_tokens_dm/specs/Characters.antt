@@ -1,5 +1,5 @@
 -- How marks and key words are written (SPARQL 1.1 Query Language, section 19.8), in characters.
-use Rattle.std.specs.Prelude.{ℕ, List, ◌==◌, ◌||◌, Bool, chars, codes}
+use Rattle.std.specs.Prelude.{ℕ, List, ◌==◌, ◌||◌, Bool, codes}
 use Rattle.sparql_tokens_dm.specs.declared.token.Keyword.{Keyword}
 use Rattle.sparql_tokens_dm.specs.declared.token.Keyword.TheVariants as keywords
 use Rattle.sparql_tokens_dm.specs.declared.token.Sign.{Sign}

@@ -4,7 +4,6 @@ use Rattle.names_dm.specs.Characters.{is_ascii_letter}
 use Rattle.names_dm.specs.Literals.{LiteralValue}
 use Rattle.names_dm.specs.Terminals.{is_variable_character}
 use Rattle.ntriples_reader_dm.specs.Reading.{iri_at, longest_literal}
-use Rattle.grammar_dm.specs.Reading.{starts}
 use Rattle.ddl_tokens_dm.specs.Scanning.{run_of}
 use Rattle.sparql_tokens_dm.specs.Characters.{is_space}
 use Rattle.sparql_tokens_dm.specs.declared.token.Keyword.{Keyword}

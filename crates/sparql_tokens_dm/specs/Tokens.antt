@@ -1,6 +1,6 @@
 -- The tokens of a text of characters (SPARQL 1.1 Query Language, section 19.8, with the IRIs and literals of RDF 1.1 N-Triples,
 -- section 7), and what stands between them. Each relation says what stands in ts before rest.
-use Rattle.std.specs.Prelude.{◌≡◌, ◌≢◌, ◌≤◌, ◌⊎◌, ℕ, ◌+◌, ◌-◌, List, [], ◌∷◌, ◌++◌, length, take, Option, Some, None, Bool, true, chars, IsUtf8, encode_utf8_all}
+use Rattle.std.specs.Prelude.{◌≡◌, ◌≢◌, ◌⊎◌, ℕ, ◌+◌, ◌-◌, List, [], ◌∷◌, ◌++◌, length, take, Option, Some, None, true, chars, IsUtf8, encode_utf8_all}
 use Rattle.std.specs.Str.{IsValidUpTo}
 use Rattle.names_dm.specs.Characters.{is_ascii_letter}
 use Rattle.names_dm.specs.Terminals.{is_variable_character}

@@ -10,11 +10,8 @@ decreases-negation l = 5 * l.levels + 2
 abbrev pub decreases-connected : goal.decreases-connected
 decreases-connected l = 5 * l.levels + 2
 
-abbrev pub decreases-choice : goal.decreases-choice
-decreases-choice l = 5 * l.levels + 3
-
 abbrev pub decreases-grouped : goal.decreases-grouped
-decreases-grouped l = 5 * l.levels + 4
+decreases-grouped l = 5 * l.levels + 3
 
 abbrev pub decreases-proper_within : goal.decreases-proper_within
 decreases-proper_within l = 5 * l.levels

@@ -19,9 +19,6 @@ decreases-minus l = 6 * l.levels + 1
 abbrev pub decreases-both : goal.decreases-both
 decreases-both l = 6 * l.levels + 1
 
-abbrev pub decreases-operator : goal.decreases-operator
-decreases-operator l = 6 * l.levels + 3
-
 abbrev pub decreases-operation : goal.decreases-operation
 decreases-operation l = 6 * l.levels + 4
 

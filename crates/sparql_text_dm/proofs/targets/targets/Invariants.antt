@@ -1,6 +1,6 @@
 use Rattle.std.proofs.Common.{length}
 use Rattle.sparql_text_dm.specs.Reading.{all_targets_at}
-use Rattle.sparql_text_dm.proofs.Targets.{TargetWalk}
+use Rattle.sparql_text_dm.proofs.TargetLoops.{TargetWalk}
 use Rattle.sparql_text_dm.proofs.targets.targets.Given as goal
 
 abbrev pub invariant-targets : goal.invariant-targets

@@ -1,4 +1,4 @@
-use Rattle.std.proofs.Common.{◌≡◌, ◌≢◌, ◌≤◌, ◌+◌, ◌-◌, ◌∷◌, ℕ, List, [], length, ap, ◌∙◌, sym, subst, arith, chars, refl}
+use Rattle.std.proofs.Common.{◌≡◌, ◌≢◌, ◌+◌, ◌-◌, ◌∷◌, ℕ, List, [], length, ap, ◌∙◌, sym, subst, arith, chars}
 use Rattle.ntriples_reader_dm.proofs.Behind.{rest_fits}
 use Rattle.ntriples_reader_dm.proofs.Fronts.{ends_all}
 use Rattle.sparql_tokens_dm.specs.declared.lexer.Lexed.{Lexed}

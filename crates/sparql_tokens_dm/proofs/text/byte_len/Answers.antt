@@ -1,4 +1,4 @@
-use Rattle.std.proofs.Common.{◌≡◌, length, sym, ap}
+use Rattle.std.proofs.Common.{length, sym, ap}
 use Rattle.std.proofs.lemmas.Str.{encodes-chars}
 use Rattle.sparql_tokens_dm.proofs.text.byte_len.Goals as goal
 

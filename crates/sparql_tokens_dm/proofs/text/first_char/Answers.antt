@@ -1,4 +1,4 @@
-use Rattle.std.proofs.Common.{◌≡◌, ◌++◌, sym, ap, ◌∙◌, encode_utf8}
+use Rattle.std.proofs.Common.{◌++◌, sym, ap, ◌∙◌, encode_utf8}
 use Rattle.std.proofs.lemmas.Str.{chars_past_char}
 use Rattle.sparql_tokens_dm.proofs.text.first_char.Goals as goal
 

@@ -1,4 +1,4 @@
-use Rattle.std.proofs.Common.{◌≡◌, ap, ◌∙◌, arith, chars}
+use Rattle.std.proofs.Common.{ap, ◌∙◌, arith, chars}
 use Rattle.std.proofs.lemmas.Str.{chars-nil}
 use Rattle.ddl_tokens_dm.specs.Scanning.{run_of}
 use Rattle.ddl_tokens_dm.specs.Views.{run_with}

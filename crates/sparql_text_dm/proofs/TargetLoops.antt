@@ -27,21 +27,21 @@ unfolding targets_at
 step_is n taken ts = refl
 
 -- enough steps are enough
+module _ (n m : ℕ) (same : (taken : List Rename) (ts : List Placed) → length ts < n → length ts < m → targets_at n taken ts ≡ targets_at m taken ts) where
+  more_same : (taken : List Rename) (ts : List Placed) (read : Answer Placed Rename) → target_at taken ts ≡ read → length ts < suc n → length ts < suc m → more_by n taken read ≡ more_by m taken read
+  more_same taken ts (Err fault) e ln lm = refl
+  more_same taken ts (Ok x) e ln lm =
+      let less = shorter taken ts x.1 x.0 e in
+      ap (λ (a : Answer Placed (List Rename)). a >>= λ rs. Ok (x.0 ∷ rs.0, rs.1)) (same (taken ++ x.0 ∷ []) x.1 (omega (arith, less, ln)) (omega (arith, less, lm)))
+
+  both_same : (taken : List Rename) (ts : List Placed) (b : Bool) → length ts < suc n → length ts < suc m → step_by n taken ts b ≡ step_by m taken ts b
+  both_same taken ts true ln lm = more_same taken ts (target_at taken ts) refl ln lm
+  both_same taken ts false ln lm = refl
+
 fuel_same : (n m : ℕ) (taken : List Rename) (ts : List Placed) → length ts < n → length ts < m → targets_at n taken ts ≡ targets_at m taken ts
-
-more_same : (n m : ℕ) (taken : List Rename) (ts : List Placed) (read : Answer Placed Rename) → target_at taken ts ≡ read → length ts < suc n → length ts < suc m → more_by n taken read ≡ more_by m taken read
-more_same n m taken ts (Err fault) e ln lm = refl
-more_same n m taken ts (Ok x) e ln lm =
-    let less = shorter taken ts x.1 x.0 e in
-    ap (λ (a : Answer Placed (List Rename)). a >>= λ rs. Ok (x.0 ∷ rs.0, rs.1)) (fuel_same n m (taken ++ x.0 ∷ []) x.1 (omega (arith, less, ln)) (omega (arith, less, lm)))
-
-both_same : (n m : ℕ) (taken : List Rename) (ts : List Placed) (b : Bool) → length ts < suc n → length ts < suc m → step_by n taken ts b ≡ step_by m taken ts b
-both_same n m taken ts true ln lm = more_same n m taken ts (target_at taken ts) refl ln lm
-both_same n m taken ts false ln lm = refl
-
 fuel_same zero m taken ts ln lm = absurd (omega (arith, ln))
 fuel_same (suc n) zero taken ts ln lm = absurd (omega (arith, lm))
-fuel_same (suc n) (suc m) taken ts ln lm = step_is n taken ts ∙ both_same n m taken ts (starts begins_target ts) ln lm ∙ sym (step_is m taken ts)
+fuel_same (suc n) (suc m) taken ts ln lm = step_is n taken ts ∙ both_same n m (fuel_same n m) taken ts (starts begins_target ts) ln lm ∙ sym (step_is m taken ts)
 
 -- what was read of the front, and what is read behind it
 pub record TargetWalk (found : List Rename) (rest : List Placed) (total : Answer Placed (List Rename)) : Type 0 where
