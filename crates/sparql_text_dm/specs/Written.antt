@@ -1,5 +1,5 @@
 -- Texts of queries, which are read back.
-use Rattle.std.specs.Prelude.{◌≡◌, ◌≢◌, ◌≤◌, ℕ, suc, max, List, [], ◌∷◌, map, Option, None, Result, Ok, Err, true}
+use Rattle.std.specs.Prelude.{◌≡◌, ◌≢◌, ◌≤◌, ◌↔◌, ℕ, suc, max, List, [], ◌∷◌, map, None, Result, Ok, Err, true}
 use Rattle.names_dm.specs.Terminals.{is_variable}
 use Rattle.names_dm.specs.declared.term.Term.TheVariants as terms
 use Rattle.ntriples_reader_dm.specs.Lawful.{IsLawfulTerm}
@@ -12,7 +12,6 @@ use Rattle.pattern_dm.specs.declared.pattern.Pattern.{Pattern, end_of-Pattern, m
 use Rattle.pattern_dm.specs.declared.pattern.Pattern.TheVariants as patterns
 use Rattle.pattern_dm.specs.Formed.{IsWellFormed}
 use Rattle.pattern_dm.specs.Texts.{query_text}
-use Rattle.sparql_tokens_dm.specs.declared.token.Token.{Token}
 use Rattle.sparql_tokens_dm.specs.declared.token.Placed.{Placed}
 use Rattle.sparql_tokens_dm.specs.Tokens.{AreTokens}
 use Rattle.sparql_text_dm.specs.declared.error.SparqlError.{SparqlError}
@@ -102,6 +101,10 @@ IsSpelling bytes header p =
 -- the bytes spell this query
 abbrev pub SpellsQuery : List ℕ → Parsed → Type 0
 SpellsQuery bytes x = IsQuery x.header x.pattern × IsSpelling bytes x.header x.pattern
+
+-- the bytes are accepted as this query exactly where they spell it
+abbrev pub AcceptsSpellings : List ℕ → Type 0
+AcceptsSpellings bytes = (x : Parsed) → IsAnswer bytes (Ok x) ↔ SpellsQuery bytes x
 
 -- this query, or want of memory
 abbrev pub GivesBack : List (List ℕ) → Pattern → Result Parsed SparqlError → Type 0
