@@ -11,3 +11,9 @@ pub mod Telling
 pub mod OneAnswer
 pub mod Formed
 pub mod SomeAnswer
+pub mod WrittenTokens
+pub mod SpelledQuery
+pub mod WrittenDepths
+pub mod WrittenBack
+pub mod ToldQuery
+pub mod Accepted

@@ -7,3 +7,4 @@ pub mod Depth
 pub mod Answer
 pub mod Telling
 pub mod NewNames
+pub mod Written

@@ -1,5 +1,6 @@
 ghost use Rattle.std.specs.Prelude.{◌≡◌, IfOk};
 ghost use Rattle.sparql_text_dm.specs.Answer.{HasOneAnswer, HasSomeAnswer, IsAnswer, IsFormed};
+ghost use Rattle.sparql_text_dm.specs.Written.{AcceptsSpellings, TextsReadBack};
 
 use crate::answer::read_text;
 use crate::error::SparqlError;
@@ -21,11 +22,16 @@ use std::alloc::Global;
 /// - `Memory` for want of memory.
 ///
 /// Places count bytes from 1. There is one right answer. The header that is read isn't empty, and the pattern is well-formed.
+///
+/// A text is accepted exactly where its tokens are those of the text of such a header and pattern, with no more than 2,048
+/// braces and parentheses open at once, and they are the answer. So what `pattern_dm::sparql_text` writes of them is read back.
 pub fn read_sparql(alloc: Global, bytes: &[u8]) -> Result<Parsed, SparqlError>
     ensures answer { IsAnswer bytes.now result }
     ensures formed { IfOk result IsFormed }
     ensures one { HasOneAnswer bytes.now }
     ensures some { HasSomeAnswer bytes.now }
+    ensures accepted { AcceptsSpellings bytes.now }
+    ensures back { TextsReadBack }
 {
     read_text(alloc, bytes)
 }

@@ -4,3 +4,7 @@ pub mod Scans
 pub mod Lexing
 pub mod Unique
 pub mod SomeTokens
+pub mod WrittenTerms
+pub mod Pieces
+pub mod Phrases
+pub mod LawfulTokens
