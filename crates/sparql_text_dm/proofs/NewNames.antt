@@ -35,7 +35,7 @@ or_last a true false = by a
 or_last a false c = refl
 
 -- one more rename has one more new name
-target_last : (renames : List Rename) (r : Rename) (x : List ℕ) → is_target (renames ++ r ∷ []) x ≡ cond (bytes_eq r.to x) true (is_target renames x)
+pub target_last : (renames : List Rename) (r : Rename) (x : List ℕ) → is_target (renames ++ r ∷ []) x ≡ cond (bytes_eq r.to x) true (is_target renames x)
 target_last [] r x = by (bytes_eq r.to x)
   where
     by : (b : Bool) → (b || false) ≡ cond b true false

@@ -414,7 +414,6 @@ header_same [] = refl
 header_same (t ∷ ts) = by_token t.token t.place
   where
     by_token : (k : Token) (place : ℕ) → header_at (record { token = k; place = place } ∷ ts) ≡ header_by (record { token = k; place = place } ∷ ts)
-    unfolding header_at variables_at
     by_token (tokens.Sign s) place = refl
     by_token (tokens.Word w) place = refl
     by_token (tokens.Var x) place = refl

@@ -82,16 +82,21 @@ walk_fails found rest total e walk begins h =
     (fails_first e (targets_at (suc m) found rest) _ (subst (λ (a : Answer Placed (List Rename)). Fails e a) (sym (step_is m found rest ∙ ap (step_by m found rest) begins)) (fails_first e (target_at found rest) _ h)))
 
 -- behind the first target
-pub walk_begins : (found : List Rename) (tokens rest : List Placed) (v : Rename) → target_at [] tokens ≡ Ok (v, rest) → found ≡ [] ++ v ∷ [] → TargetWalk found rest (all_targets_at tokens)
+pub walk_begins : (none found : List Rename) (tokens rest : List Placed) (v : Rename) → none ≡ [] → target_at none tokens ≡ Ok (v, rest) → found ≡ none ++ v ∷ [] → TargetWalk found rest (all_targets_at tokens)
 unfolding all_targets_at
-walk_begins found tokens rest v read made = record {
+walk_begins none found tokens rest v empty read made = record {
   so_far = λ n le.
-      ap (λ us. through (λ rs. us ++ rs) (targets_at n us rest)) made
+      ap (λ us. through (λ rs. us ++ rs) (targets_at n us rest)) (made ∙ ap (λ us. us ++ v ∷ []) empty)
       ∙ ap (through (λ rs. v ∷ rs)) (fuel_same n (suc (length rest)) (v ∷ []) rest le (omega arith))
-      ∙ sym (ap (λ (a : Answer Placed Rename). a >>= λ r. targets_at (suc (length r.1)) (r.0 ∷ []) r.1 >>= λ rs. Ok (r.0 ∷ rs.0, rs.1)) read);
+      ∙ sym (ap (λ (a : Answer Placed Rename). a >>= λ r. targets_at (suc (length r.1)) (r.0 ∷ []) r.1 >>= λ rs. Ok (r.0 ∷ rs.0, rs.1)) (ap (λ us. target_at us tokens) (sym empty) ∙ read));
 }
+
+pub first_fails : (none : List Rename) (tokens : List Placed) (e : ReadError Placed) → none ≡ [] → Fails e (target_at none tokens) → Fails e (all_targets_at tokens)
+unfolding all_targets_at
+first_fails none tokens e empty h =
+    fails_first e (target_at [] tokens) (λ r. targets_at (suc (length r.1)) (r.0 ∷ []) r.1 >>= λ rs. Ok (r.0 ∷ rs.0, rs.1)) (subst (λ (us : List Rename). Fails e (target_at us tokens)) empty h)
 
 pub walk_less : (found : List Rename) (rest after : List Placed) (v : Rename) → target_at found rest ≡ Ok (v, after) → length after < length rest
 walk_less found rest after v read = shorter found rest after v read
 
-pub ruleset targets_loop = (walk_begins, walk_on, walk_stops, walk_fails, walk_less)
+pub ruleset targets_loop = (walk_begins, first_fails, walk_on, walk_stops, walk_fails, walk_less)

@@ -19,8 +19,8 @@ abbrev pub GoesOn : {V W : Type 0} → Found V → (V × List Placed → Answer 
 GoesOn {V} part next result = (read : Answer Placed V) → Gives (λ x. (x.0, x.1.now)) part read → Gives (λ x. (x.0, x.1.now)) result (read >>= next)
 
 -- what was read, where the mark stands behind it
-abbrev pub ended_by : {V : Type 0} → Sign → V × List Placed → Answer Placed V
-ended_by s x = sign_at s x.1 >>= λ b. Ok (x.0, b.1)
+abbrev pub closed_at : {V : Type 0} → Sign → V × List Placed → Answer Placed V
+closed_at s x = sign_at s x.1 >>= λ b. Ok (x.0, b.1)
 
 -- the empty pattern takes no token
 abbrev pub empty_at : Read Pattern

@@ -1,7 +1,7 @@
 // Conditions.
 ghost use Rattle.std.specs.Prelude.{Ok};
 ghost use Rattle.grammar_dm.specs.Exits.{Gives};
-ghost use Rattle.sparql_text_dm.specs.Following.{GoesOn, ended_by};
+ghost use Rattle.sparql_text_dm.specs.Following.{GoesOn, closed_at};
 ghost use Rattle.sparql_text_dm.specs.Grammar.{connected};
 ghost use Rattle.sparql_text_dm.specs.Reading.{all_proper_at, bound_at, condition_at, connected_at, filter_at, grouped_at, join_condition_at, negation_at, proper_at, same_term_at, terms_at, true_at, true_or_at};
 
@@ -77,7 +77,7 @@ fn joined(
 
 // What was read, where a closing parenthesis stands behind it.
 fn closed(content: Read<'_, Boxed<Condition>>) -> Read<'_, Boxed<Condition>>
-    ensures { GoesOn content.entry (ended_by Sign.CloseParenthesis) result }
+    ensures { GoesOn content.entry (closed_at Sign.CloseParenthesis) result }
 {
     let (found, rest) = content?;
     let rest = sign(rest, Sign::CloseParenthesis)?;

@@ -1,7 +1,7 @@
 // Patterns.
 ghost use Rattle.std.specs.Prelude.{Ok};
 ghost use Rattle.grammar_dm.specs.Exits.{Gives};
-ghost use Rattle.sparql_text_dm.specs.Following.{GoesOn, empty_at, ended_by};
+ghost use Rattle.sparql_text_dm.specs.Following.{GoesOn, empty_at, closed_at};
 ghost use Rattle.sparql_text_dm.specs.Reading.{and_pattern_at, content_at, filtered_at, left_join_at, minus_at, operation_at, operator_at, optional_part_at, pattern_at, select_at, triple_at, union_at};
 ghost use Rattle.sparql_text_dm.specs.Pairs.{paired};
 
@@ -191,7 +191,7 @@ fn content(alloc: Global, levels: usize, tokens: &[Placed]) -> Read<'_, Boxed<Pa
 
 // What was read, where a closing brace stands behind it.
 fn closed(content: Read<'_, Boxed<Pattern>>) -> Read<'_, Boxed<Pattern>>
-    ensures { GoesOn content.entry (ended_by Sign.CloseBrace) result }
+    ensures { GoesOn content.entry (closed_at Sign.CloseBrace) result }
 {
     let (found, rest) = content?;
     let rest = sign(rest, Sign::CloseBrace)?;
