@@ -14,8 +14,8 @@ use Rattle.pattern_dm.specs.declared.pattern.Pattern.TheVariants as patterns
 use Rattle.pattern_dm.specs.declared.pattern.Pattern.TheBlock.{shape-the_row-Pattern-0, hidden-the_row-Pattern-0}
 use Rattle.sparql_text_dm.specs.declared.error.SparqlError.{SparqlError}
 use Rattle.sparql_text_dm.specs.Answer.{IsAnswer, IsFormed}
-use Rattle.sparql_text_dm.specs.Grammar.{Query, content, header, left_join, operator, optional_part, other_target, pattern, pattern_within, query, same_target, select, target, targets, targets_within, triple}
-use Rattle.sparql_text_dm.specs.Words.{new_name_of, other_name_of, unless_named, unless_target, variable_of}
+use Rattle.sparql_text_dm.specs.Grammar.{Query, content, header, left_join, operator, optional_part, other_target, pattern_within, query, same_target, select, target, targets, targets_within, triple}
+use Rattle.sparql_text_dm.specs.Words.{new_name_of, unless_named, unless_target, variable_of}
 use Rattle.sparql_text_dm.specs.declared.parsed.Parsed.{Parsed}
 use Rattle.sparql_text_dm.proofs.NewNames.{target_last}
 
