@@ -9,7 +9,6 @@ pub mod Loops
 pub mod TargetLoops
 pub mod Telling
 pub mod OneAnswer
-pub mod Formed
 pub mod WrittenTokens
 pub mod SpelledQuery
 pub mod WrittenDepths

@@ -1,5 +1,4 @@
-use Rattle.sparql_text_dm.proofs.Accepted.{accepted}
-use Rattle.sparql_text_dm.proofs.Formed.{is_formed}
+use Rattle.sparql_text_dm.proofs.Accepted.{accepted, is_formed}
 use Rattle.sparql_text_dm.proofs.OneAnswer.{one_answer}
 use Rattle.sparql_text_dm.proofs.WrittenBack.{texts_read_back}
 use Rattle.sparql_text_dm.proofs.query.read_sparql.Goals as goal
