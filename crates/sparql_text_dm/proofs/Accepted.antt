@@ -1,5 +1,5 @@
 -- A text is accepted exactly where it has the tokens of a query's text.
-use Rattle.std.proofs.Common.{◌≡◌, ◌∙◌, ◌↔◌, ℕ, List, [], ◌∷◌, Bool, true, false, None, Result, Ok, Err, IfOk, refl, sym, ap, subst, bytes_eq, cond}
+use Rattle.std.proofs.Common.{◌≡◌, ◌∙◌, ℕ, List, [], ◌∷◌, Bool, true, false, None, Result, Ok, Err, IfOk, refl, sym, ap, subst, bytes_eq, cond}
 use Rattle.std.specs.Cmp.Lexicographic.{bytes_decides}
 use Rattle.solutions_dm.specs.declared.selects.Rename.{Rename}
 use Rattle.pattern_dm.specs.declared.pattern.Operand.{Operand}
@@ -120,9 +120,10 @@ text_query bytes x text =
 pub accepted : (bytes : List ℕ) → AcceptsSpellings bytes
 accepted bytes x = ((λ text. text_query bytes x text), (λ s. spelled_text bytes x s))
 
-pub text_formed : (bytes : List ℕ) (x : Parsed) → IsTextOf bytes x → IsFormed x
+text_formed : (bytes : List ℕ) (x : Parsed) → IsTextOf bytes x → IsFormed x
 text_formed bytes x text = let told = query_told text.0 (x.header, x.pattern) text.3 in record { header = told.some; pattern = told.formed }
 
-pub answer_formed : (bytes : List ℕ) (r : Result Parsed SparqlError) → IsAnswer bytes r → IfOk r IsFormed
-answer_formed bytes (Ok x) h = text_formed bytes x h
-answer_formed bytes (Err e) h = tt
+-- what is read is formed
+pub is_formed : (bytes : List ℕ) (r : Result Parsed SparqlError) → IsAnswer bytes r → IfOk r IsFormed
+is_formed bytes (Ok x) h = text_formed bytes x h
+is_formed bytes (Err e) h = tt

@@ -1,7 +1,6 @@
 -- Each reader of a condition reads its part.
-use Rattle.std.proofs.Common.{◌≡◌, ℕ, zero, suc, ◌≤◌, Bool, true, false, List, [], ◌∷◌, length, refl, ap, arith}
-use Rattle.std.specs.Prelude.{is_some}
-use Rattle.grammar_dm.specs.Part.{Part, Spells}
+use Rattle.std.proofs.Common.{◌≡◌, ℕ, zero, suc, ◌≤◌, true, false, List, [], ◌∷◌, length, refl, ap, arith}
+use Rattle.grammar_dm.specs.Part.{Part}
 use Rattle.grammar_dm.specs.Part.Part.{give, or, then, token}
 use Rattle.grammar_dm.specs.Reading.{starts}
 use Rattle.grammar_dm.proofs.Choices.{Sub, or_apart, or_by, parted}
@@ -9,13 +8,13 @@ use Rattle.grammar_dm.proofs.Equations.{both_sub, or_sub, self_sub, then_sub}
 use Rattle.grammar_dm.proofs.Laws.{Apart, Reads, closed_then, give_reads, no, then_blocked, token_blocked, token_then, token_then_blocked}
 use Rattle.grammar_dm.proofs.Nesting.{levels_reads, never_reads, never_sub, nil_sub}
 use Rattle.grammar_dm.proofs.Fronts.{behind_whole, suffix_length}
-use Rattle.sparql_tokens_dm.specs.declared.token.Keyword.TheVariants.{Filter, True, Bound, SameTerm}
-use Rattle.sparql_tokens_dm.specs.declared.token.Sign.TheVariants.{OpenParenthesis, CloseParenthesis, Comma, Not}
+use Rattle.sparql_tokens_dm.specs.declared.token.Keyword.TheVariants.{True, Bound, SameTerm}
+use Rattle.sparql_tokens_dm.specs.declared.token.Sign.TheVariants.{OpenParenthesis, Not}
 use Rattle.sparql_tokens_dm.specs.declared.token.Placed.{Placed}
 use Rattle.pattern_dm.specs.declared.pattern.Condition.{Condition}
 use Rattle.pattern_dm.specs.declared.pattern.Condition.TheVariants as conditions
-use Rattle.sparql_text_dm.specs.Grammar.{bound, condition, connection, filter, grouped, negation, proper, proper_within, same_term, sign, term, terms, true_or, variable, word}
-use Rattle.sparql_text_dm.specs.Reading.{Read, all_proper_at, bound_at, choice_at, condition_at, connected_at, filter_at, grouped_at, negation_at, proper_at, same_term_at, terms_at, true_at, true_or_at}
+use Rattle.sparql_text_dm.specs.Grammar.{bound, condition, connection, grouped, negation, proper, proper_within, same_term, sign, terms, true_or, word}
+use Rattle.sparql_text_dm.specs.Reading.{Read, all_proper_at, bound_at, choice_at, condition_at, connected_at, grouped_at, negation_at, proper_at, same_term_at, terms_at, true_at, true_or_at}
 use Rattle.sparql_text_dm.specs.Words.{connective_of, is_sign, is_word}
 use Rattle.sparql_text_dm.proofs.Firsts.{sign_word, signs, word_sign, words}
 

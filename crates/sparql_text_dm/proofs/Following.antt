@@ -1,11 +1,9 @@
 -- Functions that go on behind a part that was read.
-use Rattle.std.proofs.Common.{◌≡◌, List, Result, Ok, Err, ap, subst, sym}
+use Rattle.std.proofs.Common.{◌≡◌, List, Ok, Err, subst, sym}
 use Rattle.std.specs.Borrow.{Bor}
 use Rattle.grammar_dm.specs.declared.read_error.ReadError.{ReadError}
-use Rattle.grammar_dm.specs.declared.read_error.ReadError.TheVariants as errors
-use Rattle.grammar_dm.specs.Exits.{Fails, Gives}
+use Rattle.grammar_dm.specs.Exits.{Gives}
 use Rattle.grammar_dm.specs.Reading.{◌>>=◌, Answer}
-use Rattle.grammar_dm.specs.Verdict.{Fault}
 use Rattle.sparql_tokens_dm.specs.declared.token.Placed.{Placed}
 use Rattle.sparql_text_dm.specs.Following.{Found, GoesOn}
 use Rattle.sparql_text_dm.proofs.Exits.{fails_first}

@@ -1,5 +1,5 @@
 -- A text has one answer.
-use Rattle.std.proofs.Common.{◌≡◌, ◌≢◌, ◌∙◌, ◌⊎◌, ℕ, List, [], ◌∷◌, length, Option, Some, None, Result, Ok, Err, ap, inl, inr, refl, subst, sym}
+use Rattle.std.proofs.Common.{◌≡◌, ◌≢◌, ◌∙◌, ◌⊎◌, ℕ, List, [], ◌∷◌, Option, Some, None, Result, Ok, Err, ap, inl, inr, refl, subst, sym}
 use Rattle.grammar_dm.specs.Part.{Begins, Spells}
 use Rattle.grammar_dm.specs.Exits.{Gives}
 use Rattle.grammar_dm.specs.Reading.{all_of}

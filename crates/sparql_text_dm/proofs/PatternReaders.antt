@@ -1,10 +1,10 @@
 -- Each reader of a pattern reads its part.
-use Rattle.std.proofs.Common.{◌≡◌, ◌∙◌, ℕ, zero, suc, ◌<◌, ◌≤◌, Bool, true, false, List, [], ◌∷◌, ◌++◌, length, Option, Some, None, Ok, refl, sym, subst, ap, arith, inl, inr, ◌⊎◌}
+use Rattle.std.proofs.Common.{◌≡◌, ℕ, zero, suc, ◌<◌, ◌≤◌, Bool, true, false, List, [], ◌∷◌, ◌++◌, length, Option, Some, None, Ok, refl, sym, subst, ap, arith, inl, inr}
 use Rattle.std.specs.Prelude.{bytes_eq, is_some, ◌||◌}
 use Rattle.solutions_dm.specs.declared.selects.Rename.{Rename}
 use Rattle.grammar_dm.specs.Part.{Part, Spells}
 use Rattle.grammar_dm.specs.Part.Part.{give, levels, or, repeated, then, token}
-use Rattle.grammar_dm.specs.Reading.{◌>>=◌, Answer, fault_at, many_at, starts, took}
+use Rattle.grammar_dm.specs.Reading.{◌>>=◌, Answer, fault_at, starts, took}
 use Rattle.grammar_dm.proofs.Choices.{Sub, closed_reads, either, is_first, is_second, neither, widened, or_apart, or_by, parted, repeated_reads, token_repeatable}
 use Rattle.grammar_dm.proofs.Equations.{or_sub, self_sub, then_sub}
 use Rattle.grammar_dm.proofs.Laws.{Apart, Reads, closed_then, give_apart, give_reads, no, then_blocked, then_reads, token_blocked, token_takes, token_then, token_then_blocked}
@@ -12,18 +12,18 @@ use Rattle.grammar_dm.proofs.Nesting.{levels_reads, never_reads, never_sub, nil_
 use Rattle.grammar_dm.proofs.Fronts.{behind_whole, suffix_length}
 use Rattle.sparql_tokens_dm.specs.Characters.{spelling}
 use Rattle.sparql_tokens_dm.specs.declared.token.Keyword.{Keyword}
-use Rattle.sparql_tokens_dm.specs.declared.token.Keyword.TheVariants.{Select, Distinct, Where, As, Union, Minus, Optional, Filter, True}
-use Rattle.sparql_tokens_dm.specs.declared.token.Sign.TheVariants.{OpenBrace, CloseBrace, OpenParenthesis, CloseParenthesis, Dot}
+use Rattle.sparql_tokens_dm.specs.declared.token.Keyword.TheVariants.{Select, Where, As, Union, Minus, Optional, Filter}
+use Rattle.sparql_tokens_dm.specs.declared.token.Sign.TheVariants.{OpenBrace, CloseBrace, OpenParenthesis, CloseParenthesis}
 use Rattle.sparql_tokens_dm.specs.declared.token.Placed.{Placed}
 use Rattle.sparql_tokens_dm.specs.declared.token.Token.{Token}
 use Rattle.sparql_tokens_dm.specs.declared.token.Token.TheVariants as tokens
 use Rattle.pattern_dm.specs.declared.pattern.Condition.{Condition}
 use Rattle.pattern_dm.specs.declared.pattern.Pattern.{Pattern}
 use Rattle.pattern_dm.specs.declared.pattern.Pattern.TheVariants as patterns
-use Rattle.sparql_text_dm.specs.Grammar.{condition, content, filter, header, join_condition, left_join, operator, optional_part, other_target, pattern, pattern_within, proper, query, renamed, same_target, select, sign, target, targets, targets_within, term, triple, true_or, variable, word}
-use Rattle.sparql_text_dm.specs.Reading.{Read, all_proper_at, all_targets_at, and_pattern_at, begins_target, condition_at, content_at, filter_at, filtered_at, header_at, join_condition_at, left_join_at, minus_at, operation_at, operator_at, optional_part_at, other_target_at, pattern_at, query_at, same_target_at, select_at, sign_at, target_at, targets_at, triple_at, true_at, true_or_at, union_at, variable_at, variables_at}
+use Rattle.sparql_text_dm.specs.Grammar.{condition, content, filter, header, join_condition, left_join, operator, optional_part, other_target, pattern, pattern_within, proper, query, renamed, same_target, select, sign, target, targets, targets_within, triple, variable, word}
+use Rattle.sparql_text_dm.specs.Reading.{Read, all_proper_at, all_targets_at, and_pattern_at, begins_target, condition_at, content_at, filter_at, filtered_at, header_at, join_condition_at, left_join_at, minus_at, operation_at, operator_at, optional_part_at, other_target_at, pattern_at, query_at, same_target_at, select_at, sign_at, target_at, targets_at, triple_at, union_at, variable_at, variables_at}
 use Rattle.sparql_text_dm.specs.Words.{is_operand, is_sign, is_variable_token, is_word, new_name_of, other_name_of, sign_of, unless_target, variable_of}
-use Rattle.sparql_text_dm.proofs.Firsts.{operand_sign, operand_word, sign_operand, sign_variable, sign_word, signs, variable_word, word_sign, words}
+use Rattle.sparql_text_dm.proofs.Firsts.{operand_sign, operand_word, sign_variable, sign_word, signs, variable_word, word_sign, words}
 use Rattle.sparql_text_dm.proofs.ConditionReaders.{all_condition_reads, all_proper_reads}
 
 -- ---- filters

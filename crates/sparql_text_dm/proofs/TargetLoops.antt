@@ -1,10 +1,9 @@
 -- The loop over targets.
-use Rattle.std.proofs.Common.{◌≡◌, ◌∙◌, ℕ, zero, suc, ◌<◌, ◌+◌, Bool, true, false, List, [], ◌∷◌, ◌++◌, length, Result, Ok, Err, refl, sym, ap, subst, arith, append_assoc}
+use Rattle.std.proofs.Common.{◌≡◌, ◌∙◌, ℕ, zero, suc, ◌<◌, Bool, true, false, List, [], ◌∷◌, ◌++◌, length, Ok, Err, refl, sym, ap, subst, arith, append_assoc}
 use Rattle.std.proofs.lemmas.List.{append-nil}
 use Rattle.solutions_dm.specs.declared.selects.Rename.{Rename}
 use Rattle.grammar_dm.specs.Exits.{Fails}
 use Rattle.grammar_dm.specs.Reading.{◌>>=◌, Answer, starts, through}
-use Rattle.grammar_dm.specs.Verdict.{Fault}
 use Rattle.grammar_dm.specs.declared.read_error.ReadError.{ReadError}
 use Rattle.grammar_dm.proofs.Laws.{Stands}
 use Rattle.sparql_tokens_dm.specs.declared.token.Placed.{Placed}

@@ -57,8 +57,7 @@ both : {f g : List Token → List Token} {j k : ℕ} → Nests f j → Nests g k
 both {g = g} {j = j} {k = k} h i = record {
   on = λ n more le.
       let one = h.on n (g more) le in
-      let two = i.on n more le in
-      (
+      let two = i.on n more le in (
         (λ fits. let a = one.0 fits in let b = two.0 a.1 in (joined n a.0 b.0, b.1)),
         (λ fits. one.1 (left n fits.0, two.1 (right n fits.0, fits.1))),
       );
@@ -233,8 +232,7 @@ shallow_fits n (u ∷ ts) h = (
 -- the text of a query nests its braces and parentheses so deep
 pub query_shallow : (header : List (List ℕ)) (p : Pattern) (ts : List Placed) → tokens_in ts ≡ query_tokens header p [] → IsShallow ts ↔ (nesting p ≤ 2048)
 query_shallow header p ts e =
-    let fits = (query_nests header p).on 0 [] (omega arith) in
-    (
+    let fits = (query_nests header p).on 0 [] (omega arith) in (
       (λ h. (let k = (fits.0 (subst (λ (us : List Token). Fits 0 us) e (shallow_fits 0 ts h))).0 in omega (arith, k))),
       (λ le. fits_shallow 0 ts (subst (λ (us : List Token). Fits 0 us) (sym e) (fits.1 (omega (arith, le), tt)))),
     )

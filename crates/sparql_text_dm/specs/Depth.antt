@@ -1,5 +1,5 @@
 -- How many braces and parentheses are open.
-use Rattle.std.specs.Prelude.{◌≡◌, ◌≤◌, ◌-◌, ◌||◌, ℕ, suc, List, [], ◌∷◌, ◌++◌, Option, Some, None, IsTrue, Bool, false, is_some, if◌then◌else◌}
+use Rattle.std.specs.Prelude.{◌≡◌, ◌≤◌, ◌-◌, ◌||◌, ℕ, suc, List, [], ◌∷◌, ◌++◌, Option, Some, None, IsTrue, Bool, if◌then◌else◌}
 use Rattle.sparql_tokens_dm.specs.declared.token.Sign.TheVariants.{OpenBrace, CloseBrace, OpenParenthesis, CloseParenthesis}
 use Rattle.sparql_tokens_dm.specs.declared.token.Placed.{Placed}
 use Rattle.sparql_text_dm.specs.Words.{is_sign}

@@ -5,7 +5,7 @@ use Rattle.grammar_dm.specs.Reading.{◌>>=◌, Answer, fault_at, many_at, start
 use Rattle.sparql_tokens_dm.specs.declared.token.Keyword.{Keyword}
 use Rattle.sparql_tokens_dm.specs.declared.token.Keyword.TheVariants.{Select, Distinct, Where, As, Union, Minus, Optional, Filter, True, Bound, SameTerm}
 use Rattle.sparql_tokens_dm.specs.declared.token.Sign.{Sign}
-use Rattle.sparql_tokens_dm.specs.declared.token.Sign.TheVariants.{OpenBrace, CloseBrace, OpenParenthesis, CloseParenthesis, Dot, Comma, Not, And, Or}
+use Rattle.sparql_tokens_dm.specs.declared.token.Sign.TheVariants.{OpenBrace, CloseBrace, OpenParenthesis, CloseParenthesis, Dot, Comma, Not}
 use Rattle.sparql_tokens_dm.specs.declared.token.Placed.{Placed}
 use Rattle.pattern_dm.specs.declared.pattern.Condition.{Condition}
 use Rattle.pattern_dm.specs.declared.pattern.Condition.TheVariants as conditions

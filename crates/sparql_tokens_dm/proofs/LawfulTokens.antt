@@ -58,10 +58,13 @@ hex_text zero so_far ts rest v s h = sym (ap all_scalars s.0) ∙ h
 hex_text (suc n) so_far ts rest v s h = hex_text n (16 * so_far + s.1) s.0 rest v s.3 (first_scalar s.2.0 ts s.0 s.2.1 h).1
 
 code_text : (ts rest : List ℕ) (c : ℕ) → code_point ts rest c → IsText ts → One c rest
-code_text ts rest c s h = (is_a_scalar c s.1, elim s.0 [
-  | inl k ↦ hex_text 4 0 k.0 rest c k.3 (first_scalar 117 ts k.0 k.2 h).1
-  | inr k ↦ hex_text 8 0 k.0 rest c k.3 (first_scalar 85 ts k.0 k.2 h).1
-])
+code_text ts rest c s h = (
+  is_a_scalar c s.1,
+  elim s.0 [
+    | inl k ↦ hex_text 4 0 k.0 rest c k.3 (first_scalar 117 ts k.0 k.2 h).1
+    | inr k ↦ hex_text 8 0 k.0 rest c k.3 (first_scalar 85 ts k.0 k.2 h).1
+  ],
+)
 
 uchar_text : (ts rest : List ℕ) (c : ℕ) → uchar ts rest c → IsText ts → One c rest
 unfolding uchar
