@@ -1,7 +1,7 @@
 -- What `bench` tells of a database: its rows, the triples of its map graph, and the tuples of two queries.
-use Rattle.std.specs.Prelude.{◌≡◌, ℕ, List, length, map, sum, ◌++◌, codes, decimal}
+use Rattle.std.specs.Prelude.{◌≡◌, ◌++◌, ℕ, pos, List, [], ◌∷◌, length, map, sum, codes, decimal}
 use Rattle.schema_dm.specs.Naming.{Name}
-use Rattle.schema_dm.specs.declared.table.Table.{Table}
+use Rattle.value_dm.specs.declared.value.Value.TheVariants.{Integer}
 use Rattle.table_csv.specs.Cells.{Row}
 use Rattle.table_csv.specs.Databases.{Data}
 use Rattle.names_dm.specs.Statements.{Statement}
@@ -9,37 +9,45 @@ use Rattle.ntriples_reader_dm.specs.Document.{IsDocument}
 use Rattle.graphs_dm.specs.Graphs.{IsGraphText}
 use Rattle.graphs_dm.specs.declared.graph_name.GraphName.TheVariants.{Map}
 use Rattle.algebra_dm.specs.Attributes.{AreAttributes}
-use Rattle.algebra_dm.specs.Nodes.{IsFaultless}
 use Rattle.algebra_dm.specs.declared.query.Query.{Query}
-use Rattle.query_text_dm.specs.Answer.{IsTextOfQuery}
+use Rattle.algebra_dm.specs.declared.query.Query.TheVariants as queries
 use Rattle.query_rows_dm.specs.Answers.{AreRows}
 
 -- what the graph's IRIs begin with
 abbrev pub base_text : List ℕ
 base_text = codes "http://example.com/"
 
+-- (diff (project (table Note) text size) (ne (table Note) size integer "1"))
+abbrev pub answer_query : Query
+answer_query = queries.Diff
+    (queries.Project (queries.Table (codes "Note")) (codes "text" ∷ codes "size" ∷ []))
+    (queries.Ne (queries.Table (codes "Note")) (codes "size") (Integer (pos 1)))
+
+-- (join (rename (table Person) id person) (table Member))
+abbrev pub joined_query : Query
+joined_query = queries.Join (queries.Rename (queries.Table (codes "Person")) (codes "id") (codes "person")) (queries.Table (codes "Member"))
+
 -- the number of rows of all tables
 abbrev pub row_count : Data → ℕ
 row_count D = sum (map length D.rows)
 
 -- the text of the database's map graph has so many triples
-abbrev pub HasTriples : List ℕ → Data → ℕ → Type 0
-HasTriples base D count = (text : List ℕ) × (triples : List Statement) × IsGraphText Map base D text × IsDocument text triples × (count ≡ length triples)
+pub record HasTriples (base : List ℕ) (D : Data) (count : ℕ) : Type 0 where
+  pub text : List ℕ
+  pub triples : List Statement
+  pub is_text : IsGraphText Map base D text
+  pub says : IsDocument text triples
+  pub counted : count ≡ length triples
 
--- the bytes are the text of a query without a fault over the tables
-abbrev pub IsCountedQuery : List Table → List ℕ → Type 0
-IsCountedQuery tables bytes = (q : Query) × IsTextOfQuery bytes q × IsFaultless tables q
+-- the rows are those of the query's tuples, each once
+abbrev pub AreRowsOfQuery : Data → Query → List Row → Type 0
+AreRowsOfQuery D q rows = (names : List Name) → AreAttributes D.tables q names → AreRows D q names rows
 
--- the query of this text has so many tuples
-abbrev pub HasTuples : Data → List ℕ → ℕ → Type 0
-HasTuples D bytes count =
-    (q : Query) × (names : List Name) × (rows : List Row) × IsTextOfQuery bytes q × AreAttributes D.tables q names × AreRows D q names rows × (count ≡ length rows)
-
-abbrev pub answer_query : List ℕ
-answer_query = codes "(diff (project (table Note) text size) (ne (table Note) size integer \"1\"))"
-
-abbrev pub joined_query : List ℕ
-joined_query = codes "(join (rename (table Person) id person) (table Member))"
+-- the query has so many tuples
+pub record HasTuples (D : Data) (q : Query) (count : ℕ) : Type 0 where
+  pub rows : List Row
+  pub are : AreRowsOfQuery D q rows
+  pub counted : count ≡ length rows
 
 -- the five lines
 abbrev pub bench_text : ℕ → ℕ → ℕ → ℕ → List ℕ

@@ -5,5 +5,6 @@
 mod answers;
 mod inverted;
 mod lines;
+mod queries;
 
 pub use lines::bench_lines;

@@ -1,26 +1,22 @@
-ghost use Rattle.std.specs.Prelude.{◌≡◌, ◌≤◌, ◌++◌, IfOk, OnOk, codes, decimal, length, string_bytes};
+ghost use Rattle.std.specs.Prelude.{◌≡◌, ◌≤◌, IfOk, IsTrue, codes, length, string_bytes};
 ghost use Rattle.graphs_dm.specs.Graphs.{AreTriplesOf};
 ghost use Rattle.graphs_dm.specs.declared.graph_name.GraphName.TheVariants as graph;
 ghost use Rattle.keys_dm.specs.Violations.{KeepsKeys};
 ghost use Rattle.bench_dm.specs.Generated.{generated};
-ghost use Rattle.bench_lines_dm.specs.Bench.{HasTriples, IsBenchText, base_text, row_count};
+ghost use Rattle.bench_lines_dm.specs.Bench.{HasTriples, IsBenchText, base_text, bench_text, row_count};
 
 use crate::answers::{Answer, answer_of};
 use crate::inverted::is_inverted;
+use crate::queries::{answer_query, joined_query};
 use bench_dm::make_database;
 use graph_texts_dm::texts_read_back;
 use graphs_dm::write_map;
-use itoa::Buffer;
 use names_dm::{Base, Triples};
 use ntriples_reader_dm::read_graph;
-use outside_dm::NoFaultSink;
+use outside_dm::{NoFaultSink, PutError};
 use std::alloc::{AllocError, Global};
 use table_csv::Database;
 use value_dm::Text;
-
-const ANSWER: &str = "(diff (project (table Note) text size) (ne (table Note) size integer \"1\"))";
-
-const JOINED: &str = "(join (rename (table Person) id person) (table Member))";
 
 fn base(alloc: Global) -> Result<Base, AllocError>
     ensures { IfOk result (λ base. base ≡ base_text) }
@@ -32,13 +28,13 @@ fn base(alloc: Global) -> Result<Base, AllocError>
 }
 
 // The number of rows of all tables.
-fn row_count(database: &Database) -> u64
+fn row_count(database: &Database) -> usize
     requires { length database.now.tables ≤ 4096 }
     ensures { result ≡ row_count database.now }
 {
     let mut count = 0;
     for t in 0..database.schema().tables().len() {
-        count += database.rows_of(t as u32).len() as u64;
+        count += database.rows_of(t as u32).len();
     }
     count
 }
@@ -52,8 +48,10 @@ fn map_triples(alloc: Global, base: &Base, database: &Database) -> Result<Triple
 {
     texts_read_back(base, database);
     let mut out = NoFaultSink::new(alloc);
-    if write_map(alloc, base, database, &mut out).is_err() {
-        return Err(AllocError);
+    match write_map(alloc, base, database, &mut out) {
+        Ok(()) => {}
+        Err(PutError::Memory) => return Err(AllocError),
+        Err(PutError::Failed) => unreachable!(),
     }
     match read_graph(alloc, out.bytes()) {
         Ok(triples) => Ok(triples),
@@ -61,36 +59,35 @@ fn map_triples(alloc: Global, base: &Base, database: &Database) -> Result<Triple
     }
 }
 
-fn push_labelled(text: &mut String, label: &str, number: u64) -> Result<(), AllocError>
-    ensures { OnOk result (string_bytes text.new ≡ string_bytes text.old ++ (label.now ++ decimal number)) }
+fn word_of(same: bool) -> &'static str
+    ensures { IsTrue same → result.now ≡ codes "equal" }
 {
-    let mut digits = Buffer::new();
-    text.push_str(label)?;
-    text.push_str(digits.format(number))
-}
-
-fn word_of(same: bool) -> &'static str {
     if same { "equal" } else { "different" }
 }
 
-fn push_answer(text: &mut String, label: &str, found: Answer) -> Result<(), AllocError> {
-    push_labelled(text, label, found.count)?;
-    text.push_str(" ")?;
-    text.push_str(word_of(found.same))?;
-    text.push_str("\n")
+/// What was found of a database.
+#[derive(Clone, Copy)]
+struct Found {
+    rows: usize,
+    triples: usize,
+    inverted: bool,
+    answered: Answer,
+    joined: Answer,
 }
 
-fn push_counts(
-    text: &mut String,
-    database: &Database,
-    triples: &Triples,
-    inverted: bool,
-) -> Result<(), AllocError> {
-    push_labelled(text, "rows ", row_count(database))?;
-    push_labelled(text, "\ntriples ", triples.len() as u64)?;
-    text.push_str("\ninverted ")?;
-    text.push_str(word_of(inverted))?;
-    text.push_str("\n")
+fn text_of(alloc: Global, found: &Found) -> Result<String, AllocError>
+    requires inverted { IsTrue found.now.inverted }
+    requires answered { IsTrue found.now.answered.same }
+    requires joined { IsTrue found.now.joined.same }
+    ensures { IfOk result (λ text. string_bytes text ≡ bench_text found.now.rows found.now.triples found.now.answered.count found.now.joined.count) }
+{
+    let inverted = word_of(found.inverted);
+    let answered = word_of(found.answered.same);
+    let joined = word_of(found.joined.same);
+    format!(
+        in alloc; "rows {}\ntriples {}\ninverted {inverted}\nanswer {} {answered}\njoined {} {joined}\n",
+        found.rows, found.triples, found.answered.count, found.joined.count
+    )
 }
 
 /// The five lines of `bench` for an `n` from 1 to 50,000: the number of rows of the benchmark's database; the number of triples
@@ -105,11 +102,16 @@ pub fn bench_lines(alloc: Global, n: u32) -> Result<String, AllocError>
     let base = base(alloc)?;
     let triples = map_triples(alloc, &base, &database)?;
     let inverted = is_inverted(alloc, &base, &database, triples.as_slice())?;
-    let answered = answer_of(alloc, &base, &database, &triples, ANSWER)?;
-    let joined = answer_of(alloc, &base, &database, &triples, JOINED)?;
-    let mut text = String::new(alloc);
-    push_counts(&mut text, &database, &triples, inverted)?;
-    push_answer(&mut text, "answer ", answered)?;
-    push_answer(&mut text, "joined ", joined)?;
-    Ok(text)
+    let answer = answer_query(alloc)?;
+    let join = joined_query(alloc)?;
+    let answered = answer_of(alloc, &base, &database, answer.get(), &triples)?;
+    let joined = answer_of(alloc, &base, &database, join.get(), &triples)?;
+    let found = Found {
+        rows: row_count(&database),
+        triples: triples.len(),
+        inverted,
+        answered,
+        joined,
+    };
+    text_of(alloc, &found)
 }
