@@ -1,0 +1,4 @@
+pub mod PlainTables
+pub mod Queries
+pub mod Counts
+pub mod OneText
