@@ -1,4 +1,5 @@
 pub mod PlainTables
-pub mod Queries
+pub mod PlainLimits
+pub mod FormedQueries
 pub mod Counts
 pub mod OneText

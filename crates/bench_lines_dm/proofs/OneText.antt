@@ -3,6 +3,7 @@ use Rattle.std.proofs.Common.{◌≡◌, ◌∙◌, ◌≤◌, ℕ, List, refl, 
 use Rattle.std.proofs.lemmas.Str.{IsUtf8-from_ascii}
 use Rattle.names_dm.specs.Namespaces.{is_base}
 use Rattle.names_dm.specs.Statements.{Statement}
+use Rattle.names_dm.specs.Terminals.{is_iri}
 use Rattle.ntriples_reader_dm.specs.Lawful.{IsIri}
 use Rattle.ntriples_reader_dm.specs.Document.{IsDocument}
 use Rattle.ntriples_reader_dm.specs.Lines.{lines}
@@ -18,7 +19,7 @@ use Rattle.bench_dm.proofs.GeneratedRows.{is_database}
 use Rattle.bench_dm.proofs.Texts.{ascii_letters, chars_letters}
 use Rattle.bench_lines_dm.specs.Bench.{HasTriples, HasTuples, IsBenchText, answer_query, base_text, bench_text, joined_query, row_count}
 use Rattle.bench_lines_dm.proofs.Counts.{tuples_one, tuples_some}
-use Rattle.bench_lines_dm.proofs.Queries.{answer_formed, joined_formed}
+use Rattle.bench_lines_dm.proofs.FormedQueries.{answer_formed, joined_formed}
 
 triples_are_one : (base : List ℕ) (D : Data) (m n : ℕ) → HasTriples base D m → HasTriples base D n → m ≡ n
 triples_are_one base D m n h k =
@@ -34,7 +35,7 @@ bench_text_one D text other h k =
     h.lines ∙ (λ i. bench_text (row_count D) (triples i) (answers i) (joined i)) ∙ sym k.lines
 
 base_iri : IsIri base_text
-unfolding is_base
+unfolding is_base is_iri
 base_iri = base_lawful base_text base_text refl (chars_letters base_text refl) (IsUtf8-from_ascii base_text (ascii_letters base_text refl))
 
 pub bench_text_some : (n : ℕ) → n ≤ 50000 → ¬ ((text : List ℕ) → ¬ IsBenchText (generated n) text)

@@ -1,5 +1,5 @@
 -- What `bench` tells of a database: its rows, the triples of its map graph, and the tuples of two queries.
-use Rattle.std.specs.Prelude.{◌≡◌, ◌++◌, ℕ, pos, List, [], ◌∷◌, length, map, sum, codes, decimal}
+use Rattle.std.specs.Prelude.{◌≡◌, ◌++◌, ℕ, pos, List, [], ◌∷◌, length, sum_by, codes, decimal}
 use Rattle.schema_dm.specs.Naming.{Name}
 use Rattle.value_dm.specs.declared.value.Value.TheVariants.{Integer}
 use Rattle.table_csv.specs.Cells.{Row}
@@ -29,7 +29,7 @@ joined_query = queries.Join (queries.Rename (queries.Table (codes "Person")) (co
 
 -- the number of rows of all tables
 abbrev pub row_count : Data → ℕ
-row_count D = sum (map length D.rows)
+row_count D = sum_by length D.rows
 
 -- the text of the database's map graph has so many triples
 pub record HasTriples (base : List ℕ) (D : Data) (count : ℕ) : Type 0 where

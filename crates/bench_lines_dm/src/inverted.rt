@@ -26,11 +26,15 @@ fn place_of(names: &Index<Text>, columns: &[Column], wanted: &Column) -> Option<
     requires few { length columns.now ≤ 256 }
     ensures { (place : ℕ) → slice_get (map plain_column columns.now) place ≡ Some wanted.now → result ≡ Some place }
 {
-    let place = names.place(&wanted.name)?;
-    if same(&columns[place].kind, &wanted.kind) {
-        Some(place as u32)
-    } else {
-        None
+    match names.place(&wanted.name) {
+        None => None,
+        Some(place) => {
+            if same(&columns[place].kind, &wanted.kind) {
+                Some(place as u32)
+            } else {
+                None
+            }
+        }
     }
 }
 
@@ -164,9 +168,9 @@ fn are_plain(alloc: Global, database: &Database, tables: &Tables) -> Result<bool
         return Ok(false);
     }
     let names = Index::new(alloc, table_names(alloc, declared)?)?;
+    let rows = tables.rows();
     for (place, shape) in shapes.iter().enumerate() {
-        let rows = tables.rows_of(place as u32);
-        if !stands_in(alloc, database, &names, shape, rows)? {
+        if !stands_in(alloc, database, &names, shape, &rows[place])? {
             return Ok(false);
         }
     }
@@ -190,6 +194,6 @@ pub fn is_inverted(
     match invert(alloc, base, triples) {
         Ok(tables) => are_plain(alloc, database, &tables),
         Err(InverseError::Memory) => Err(AllocError),
-        Err(_) => Err(AllocError),
+        Err(_) => unreachable!(),
     }
 }

@@ -1,0 +1,8 @@
+use Rattle.bench_lines_dm.proofs.PlainTables.{plain_same}
+use Rattle.bench_lines_dm.proofs.PlainLimits.{plain_within}
+use Rattle.bench_lines_dm.proofs.inverted.is_inverted.Goals as goal
+
+pub are_plain-requires : goal.are_plain-requires
+are_plain-requires c =
+    let plain = c.graphs_stand.ensures.some in
+    plain_same c.args.database.now c.in-Ok.tables plain.0 (c.in-Ok.ensures.determined plain.0 (c.graphs_stand.ensures.map c.args.triples.now plain.0 c.requires.kept plain.1 c.requires.triples)) plain.1
