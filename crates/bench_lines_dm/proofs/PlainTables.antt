@@ -231,3 +231,13 @@ module _ (D : Data) (tables : List PlainTable) (is : IsPlain D tables) where
       let count = length-map tables (λ (p : PlainTable). p.shape) in
       let at = paired_at (IsPlainAt D) is.places tables k 0 (record { shape = shape; rows = rows }) is.tables.belong (omega arith) in
       (get_or is.places k 0, subst (IsPlainAt D (get_or is.places k 0)) (parts_there tables k shape rows (omega arith) s r) at)
+
+pub fits_there : (tables : List PlainTable) (shapes : List ShapeTable) (lists : List (List Row)) → shapes ≡ shape_of tables → lists ≡ rows_of tables
+    → AllZip (λ (table : ShapeTable) (rows : List Row). AreRowsOf table.columns rows) (shape_of tables) (rows_of tables)
+    → (k : ℕ) (shape : ShapeTable) (rows : List Row) → k < length shapes → shape ≡ get_or shapes k shape → rows ≡ get_or lists k rows → AreRowsOf shape.columns rows
+fits_there tables shapes lists s l fit k shape rows within is also =
+    let Fits : ShapeTable → List Row → Type 0 = λ table rows. AreRowsOf table.columns rows in
+    let here : AllZip Fits shapes lists = subst (λ (xs : List ShapeTable). AllZip Fits xs lists) (sym s) (subst (λ (ys : List (List Row)). AllZip Fits (shape_of tables) ys) (sym l) fit) in
+    let count = paired_count Fits shapes lists here in
+    let at : Fits (get_or shapes k shape) (get_or lists k rows) = paired_at Fits shapes lists k shape rows here (omega arith) in
+    subst (λ (x : ShapeTable). AreRowsOf x.columns rows) (sym is) (subst (λ (ys : List Row). AreRowsOf (get_or shapes k shape).columns ys) (sym also) at)

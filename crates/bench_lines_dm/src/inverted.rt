@@ -177,6 +177,16 @@ fn are_plain(alloc: Global, database: &Database, tables: &Tables) -> Result<bool
     Ok(true)
 }
 
+// What stands for a want of memory.
+fn shortage(error: InverseError) -> AllocError
+    requires { error ≡ InverseError.Memory }
+{
+    match error {
+        InverseError::Memory => AllocError,
+        _ => unreachable!(),
+    }
+}
+
 /// Whether the triples stand for the database's tables without keys, each with the same rows in some order, as the triples of
 /// its map graph do. Refused for want of memory alone.
 pub fn is_inverted(
@@ -190,10 +200,10 @@ pub fn is_inverted(
     requires few { length triples.now ≤ 16777216 }
     ensures { IfOk result (λ told. IsTrue told) }
 {
+    let _schema = database.schema();
     graphs_stand(base, database);
     match invert(alloc, base, triples) {
         Ok(tables) => are_plain(alloc, database, &tables),
-        Err(InverseError::Memory) => Err(AllocError),
-        Err(_) => unreachable!(),
+        Err(error) => Err(shortage(error)),
     }
 }

@@ -1,4 +1,4 @@
-ghost use Rattle.std.specs.Prelude.{◌≡◌, ◌≤◌, IfOk, IsTrue, codes, length, string_bytes};
+ghost use Rattle.std.specs.Prelude.{◌≡◌, ◌≤◌, ◌++◌, IfOk, IsTrue, OnOk, codes, decimal, length, string_bytes};
 ghost use Rattle.graphs_dm.specs.Graphs.{AreTriplesOf};
 ghost use Rattle.graphs_dm.specs.declared.graph_name.GraphName.TheVariants as graph;
 ghost use Rattle.keys_dm.specs.Violations.{KeepsKeys};
@@ -11,6 +11,7 @@ use crate::queries::{answer_query, joined_query};
 use bench_dm::make_database;
 use graph_texts_dm::texts_read_back;
 use graphs_dm::write_map;
+use itoa::Buffer;
 use names_dm::{Base, Triples};
 use ntriples_reader_dm::read_graph;
 use outside_dm::{NoFaultSink, PutError};
@@ -75,19 +76,56 @@ struct Found {
     joined: Answer,
 }
 
+// Appends a number in decimal digits.
+fn push_number(text: &mut String, number: usize) -> Result<(), AllocError>
+    ensures { OnOk result (string_bytes text.new ≡ string_bytes text.old ++ decimal number) }
+{
+    let mut digits = Buffer::new();
+    text.push_str(digits.format(number))
+}
+
+// Appends a label and a number.
+fn push_labelled(text: &mut String, label: &str, number: usize) -> Result<(), AllocError>
+    ensures { OnOk result (string_bytes text.new ≡ string_bytes text.old ++ (label.now ++ decimal number)) }
+{
+    text.push_str(label)?;
+    push_number(text, number)
+}
+
+fn push_answer(text: &mut String, label: &str, found: Answer) -> Result<(), AllocError>
+    requires { IsTrue found.same }
+    ensures { OnOk result (string_bytes text.new ≡ string_bytes text.old ++ (label.now ++ decimal found.count ++ codes " equal\n")) }
+{
+    push_labelled(text, label, found.count)?;
+    text.push_str(" ")?;
+    text.push_str(word_of(found.same))?;
+    text.push_str("\n")?;
+    Ok(())
+}
+
+fn push_counts(text: &mut String, found: &Found) -> Result<(), AllocError>
+    requires { IsTrue found.now.inverted }
+    ensures { OnOk result (string_bytes text.new ≡ string_bytes text.old ++ (codes "rows " ++ decimal found.now.rows ++ codes "\ntriples " ++ decimal found.now.triples ++ codes "\ninverted equal\n")) }
+{
+    push_labelled(text, "rows ", found.rows)?;
+    push_labelled(text, "\ntriples ", found.triples)?;
+    text.push_str("\ninverted ")?;
+    text.push_str(word_of(found.inverted))?;
+    text.push_str("\n")?;
+    Ok(())
+}
+
 fn text_of(alloc: Global, found: &Found) -> Result<String, AllocError>
     requires inverted { IsTrue found.now.inverted }
     requires answered { IsTrue found.now.answered.same }
     requires joined { IsTrue found.now.joined.same }
     ensures { IfOk result (λ text. string_bytes text ≡ bench_text found.now.rows found.now.triples found.now.answered.count found.now.joined.count) }
 {
-    let inverted = word_of(found.inverted);
-    let answered = word_of(found.answered.same);
-    let joined = word_of(found.joined.same);
-    format!(
-        in alloc; "rows {}\ntriples {}\ninverted {inverted}\nanswer {} {answered}\njoined {} {joined}\n",
-        found.rows, found.triples, found.answered.count, found.joined.count
-    )
+    let mut text = String::new(alloc);
+    push_counts(&mut text, found)?;
+    push_answer(&mut text, "answer ", found.answered)?;
+    push_answer(&mut text, "joined ", found.joined)?;
+    Ok(text)
 }
 
 /// The five lines of `bench` for an `n` from 1 to 50,000: the number of rows of the benchmark's database; the number of triples
