@@ -48,11 +48,11 @@ named_so (n ∷ names) w (suc place) name at = named_so names w place name at
 -- ---- one number
 
 same_numbers : (m n : ℕ) → ¬ (¬ (m ≡ n)) → m ≡ n
-same_numbers m n no = go (m == n) refl
+same_numbers m n stays = go (m == n) refl
   where
     go : (b : Bool) → (m == n) ≡ b → m ≡ n
     go true e = eqb-true m n e
-    go false e = absurd (no (λ same. true≢false (sym (eq-eqb m n same) ∙ e)))
+    go false e = absurd (stays (λ same. true≢false (sym (eq-eqb m n same) ∙ e)))
 
 module _ (D : Data) (q : Query) (names : List Name) (are : AreAttributes D.tables q names) where
   once : NoRepeats names
@@ -85,9 +85,9 @@ module _ {X : Type 0} (P : X → Type 0) where
   once_of (z ∷ xs) none = once_of xs (λ ys are once. decided {A = P z} (λ has. decided {A = IsIn z ys} (λ here. by_cases ys are once has here)))
     where
       by_cases : (ys : List X) → ((x : X) → IsIn x ys ↔ (IsIn x xs × P x)) → NoRepeats ys → (P z ⊎ (¬ P z)) → (IsIn z ys ⊎ (¬ IsIn z ys)) → ⊥
-      by_cases ys are once (inr no) here = none ys (λ x. (
+      by_cases ys are once (inr out) here = none ys (λ x. (
         (λ h. (let r = (are x).0 h in (inr r.0, r.1))),
-        (λ h. elim h.0 [ inl is ↦ absurd (no (subst P (sym is) h.1)) | inr k ↦ (are x).1 (k, h.1) ]),
+        (λ h. elim h.0 [ inl is ↦ absurd (out (subst P (sym is) h.1)) | inr k ↦ (are x).1 (k, h.1) ]),
       )) once
       by_cases ys are once (inl p) (inl here) = none ys (λ x. (
         (λ h. (let r = (are x).0 h in (inr r.0, r.1))),
