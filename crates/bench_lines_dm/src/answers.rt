@@ -47,7 +47,8 @@ fn graph_lines(
     let header = header(alloc, names.as_slice())?;
     let pattern = Boxed::new(alloc, translate(alloc, Mode::Map, base, schema, query)?)?;
     let copied = triples.copy(alloc)?;
-    solution_lines(alloc, copied, pattern.get(), &header)
+    let text = solution_lines(alloc, copied, pattern.get(), &header)?;
+    Ok(text)
 }
 
 /// What a query has over the tables, and over the triples of their map graph. Refused for want of memory alone.
