@@ -11,7 +11,7 @@ use Rattle.members_dm.proofs.ElementsLemmas.{permutation_of_items}
 use Rattle.members_dm.proofs.MembershipLemmas.{rising-NoRepeats}
 use Rattle.schema_dm.specs.Naming.{Name}
 use Rattle.schema_dm.specs.Shapes.{IsBefore}
-use Rattle.table_csv.specs.Cells.{Cell, Row}
+use Rattle.table_csv.specs.Cells.{Row}
 use Rattle.table_csv.specs.Databases.{Data, IsDatabase}
 use Rattle.algebra_dm.specs.Attributes.{AreAttributes, HasAttribute}
 use Rattle.algebra_dm.specs.Nodes.{IsFaultless}
@@ -20,7 +20,7 @@ use Rattle.algebra_dm.specs.declared.query.Query.{Query}
 use Rattle.algebra_dm.proofs.RisingLemmas.{lists_unique, one_way}
 use Rattle.query_rows_dm.specs.Answers.{AreRows, HasUnder}
 use Rattle.query_rows_dm.specs.Grids.{term_in}
-use Rattle.query_lines_dm.specs.Lines.{AreQueryLines, IsTermRow, TermRow}
+use Rattle.query_lines_dm.specs.Lines.{IsTermRow, TermRow}
 use Rattle.query_lines_dm.proofs.SomeLines.{query_lines_some}
 use Rattle.keeping_dm.specs.Keeping.{IsLawfulTuple}
 use Rattle.keeping_dm.proofs.TermLemmas.{one_cell}

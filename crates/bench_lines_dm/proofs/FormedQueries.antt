@@ -1,5 +1,5 @@
 -- The two queries are well-formed over the benchmark's tables.
-use Rattle.std.proofs.Common.{◌≡◌, ◌≢◌, ◌∙◌, ◌⊎◌, ◌≤◌, List, [], ◌∷◌, Bool, true, false, not, refl, sym, ap, subst, arith, inl, inr, length, map, is_lt, Less, Equal, Greater, codes, lit≤}
+use Rattle.std.proofs.Common.{◌≡◌, ◌≢◌, ◌∙◌, ◌⊎◌, ◌≤◌, List, [], ◌∷◌, Bool, true, false, not, refl, sym, ap, subst, arith, inl, inr, length, is_lt, Less, Equal, Greater, codes, lit≤}
 use denote.Hole.Carrier.{hidden}
 use Rattle.std.specs.Prelude.{◌&&◌, ◌||◌, ◌↔◌, encode_utf8_all, pos}
 use Rattle.std.specs.Cmp.Lexicographic.{bytes_decides, slice_cmp}
@@ -8,7 +8,7 @@ use Rattle.std.specs.Ordering.{nat_cmp}
 use Rattle.std.specs.declared.cmp.Ordering.{Ordering}
 use Rattle.std.proofs.lemmas.Bool.{and_parts, true≢false}
 use Rattle.members_dm.specs.Elements.{Repeats}
-use Rattle.members_dm.specs.Membership.{IsIn, IsRising, NoRepeats, SameItems}
+use Rattle.members_dm.specs.Membership.{IsIn, IsRising}
 use Rattle.members_dm.proofs.ElementsLemmas.{one_by_key}
 use Rattle.members_dm.proofs.ElementsTests.{IsIn-decides, repeats, repeats-decides}
 use Rattle.value_dm.specs.declared.value.Value.TheVariants.{Integer}
@@ -20,7 +20,7 @@ use Rattle.algebra_dm.specs.Attributes.{AreAttributes, HasAttribute}
 use Rattle.algebra_dm.specs.Causes.{HasNoCause, IsTooWide}
 use Rattle.algebra_dm.specs.Nodes.{IsWellFormed}
 use Rattle.algebra_dm.specs.declared.query.Query.{Query}
-use Rattle.algebra_dm.specs.declared.query.Query.TheVariants.{Table, Project, Ne, Diff, Rename, Join}
+use Rattle.algebra_dm.specs.declared.query.Query.TheVariants.{Table, Project, Ne, Rename, Join}
 use Rattle.algebra_dm.specs.declared.query.Query.TheBlock.{shape-the_row-Query-0, hidden-the_row-Query-0}
 use Rattle.algebra_dm.proofs.RisingLemmas.{lists_unique}
 use Rattle.bench_dm.specs.Tables.{drafts, member, note, person}
@@ -94,8 +94,8 @@ table_attributes t names here rise same =
       exact = λ a. (
         (λ m. (t, (here, refl), has_so (column_names t.columns) a (all_so (has (column_names t.columns)) names both.0 a m))),
         (λ h.
-        let one = one_by_key (λ (u : SchemaTable). u.name) tables are_schema.names h.0 t h.1.0 here h.1.1 in
-        has_so names a (all_so (has names) (column_names t.columns) both.1 a (subst (λ (u : SchemaTable). IsIn a (column_names u.columns)) one h.2))),
+            let one = one_by_key (λ (u : SchemaTable). u.name) tables are_schema.names h.0 t h.1.0 here h.1.1 in
+            has_so names a (all_so (has names) (column_names t.columns) both.1 a (subst (λ (u : SchemaTable). IsIn a (column_names u.columns)) one h.2))),
       );
     }
 
@@ -118,9 +118,9 @@ rename_attributes q from to part names are rise same =
         (λ h. elim h [
           | inl is ↦ subst (λ (b : Name). IsIn b names) is (has_so names to second.0)
           | inr k ↦ elim (either (same_name from a) (has names a) (all_so (λ b. same_name from b || has names b) part second.1 a ((are.exact a).1 k.0))) [
-              | inl is ↦ absurd (k.1 ((bytes_decides from a).0 is))
-              | inr there ↦ has_so names a there
-            ]
+            | inl is ↦ absurd (k.1 ((bytes_decides from a).0 is))
+            | inr there ↦ has_so names a there
+          ]
         ]),
       );
     }
@@ -240,9 +240,13 @@ project_fine : HasNoCause tables all_notes
 unfolding shape-the_row-Query-0 hidden-the_row-Query-0 hidden
 project_fine = (
   (λ h. h),
-  ((λ none. cc none),
-    ((λ lacks. elim lacks [ inl n ↦ n (notes, (notes_here, refl), inl refl) | inr k ↦ elim k [ inl n ↦ n (notes, (notes_here, refl), inr (inl refl)) | inr h ↦ h ] ]),
-      (once_so (codes "text" ∷ codes "size" ∷ []) refl, ((λ h. h), (narrow all_notes note_names project_attributes (lit≤ tt), tt))))),
+  (
+    (λ none. cc none),
+    (
+      (λ lacks. elim lacks [ inl n ↦ n (notes, (notes_here, refl), inl refl) | inr k ↦ elim k [ inl n ↦ n (notes, (notes_here, refl), inr (inl refl)) | inr h ↦ h ] ]),
+      (once_so (codes "text" ∷ codes "size" ∷ []) refl, ((λ h. h), (narrow all_notes note_names project_attributes (lit≤ tt), tt))),
+    ),
+  ),
 )
 
 ones_fine : HasNoCause tables ones
@@ -273,9 +277,13 @@ renaming_fine : HasNoCause tables renamed
 unfolding shape-the_row-Query-0 hidden-the_row-Query-0 hidden
 renaming_fine = (
   (λ h. h),
-  ((λ h. h),
-    ((λ lacks. lacks (persons, (persons_here, refl), inl refl)),
-      ((λ taken. differ_person (has_person taken)), ((λ h. h), (narrow renamed joined_names renamed_attributes (lit≤ tt), tt))))),
+  (
+    (λ h. h),
+    (
+      (λ lacks. lacks (persons, (persons_here, refl), inl refl)),
+      ((λ taken. differ_person (has_person taken)), ((λ h. h), (narrow renamed joined_names renamed_attributes (lit≤ tt), tt))),
+    ),
+  ),
 )
   where
     has_person : HasAttribute tables (Table (codes "Person")) (codes "person") → IsIn (codes "person") person_names

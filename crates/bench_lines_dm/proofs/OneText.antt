@@ -9,7 +9,6 @@ use Rattle.ntriples_reader_dm.specs.Document.{IsDocument}
 use Rattle.ntriples_reader_dm.specs.Lines.{lines}
 use Rattle.ntriples_reader_dm.proofs.Cuts.{triples_one}
 use Rattle.table_csv.specs.Databases.{Data, IsDatabase}
-use Rattle.graphs_dm.specs.Graphs.{IsGraphText}
 use Rattle.graphs_dm.specs.declared.graph_name.GraphName.TheVariants.{Map}
 use Rattle.graphs_dm.proofs.GraphLevels.{graph_text_unique, some_text}
 use Rattle.graph_texts_dm.proofs.Texts.{base_lawful, reads_back}
@@ -17,7 +16,7 @@ use Rattle.bench_dm.specs.Generated.{generated}
 use Rattle.bench_dm.proofs.GeneratedKeys.{keeps_keys}
 use Rattle.bench_dm.proofs.GeneratedRows.{is_database}
 use Rattle.bench_dm.proofs.Texts.{ascii_letters, chars_letters}
-use Rattle.bench_lines_dm.specs.Bench.{HasTriples, HasTuples, IsBenchText, answer_query, base_text, bench_text, joined_query, row_count}
+use Rattle.bench_lines_dm.specs.Bench.{HasTriples, IsBenchText, answer_query, base_text, bench_text, joined_query, row_count}
 use Rattle.bench_lines_dm.proofs.Counts.{tuples_one, tuples_some}
 use Rattle.bench_lines_dm.proofs.FormedQueries.{answer_formed, joined_formed}
 

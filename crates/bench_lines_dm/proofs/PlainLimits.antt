@@ -1,5 +1,5 @@
 -- The tables that a database has without keys are within the limits.
-use Rattle.std.proofs.Common.{◌≡◌, refl, subst, inl, inr, arith, ℕ, zero, suc, ◌≤◌, List, [], ◌∷◌, length, map}
+use Rattle.std.proofs.Common.{◌≡◌, subst, inl, inr, arith, ℕ, zero, suc, ◌≤◌, List, [], ◌∷◌, length, map}
 use Rattle.std.specs.List.{AllZip}
 use Rattle.std.proofs.lemmas.List.{length-map}
 use Rattle.std.proofs.lemmas.List.Sorted.{length_permutation}

@@ -1,4 +1,4 @@
-use Rattle.std.proofs.Common.{◌≡◌, ◌∙◌, ℕ, List, [], ap, map, subst, sym}
+use Rattle.std.proofs.Common.{◌∙◌, ℕ, List, [], ap, map, subst, sym}
 use Rattle.members_dm.specs.Membership.{IsIn}
 use Rattle.names_dm.specs.Statements.{Statement}
 use Rattle.names_dm.specs.Variables.{variable_of}

@@ -1,5 +1,4 @@
-use Rattle.std.proofs.Common.{◌≡◌, ◌∙◌, List, ℕ, map, sym, ap}
-use Rattle.table_csv.specs.Cells.{Row, cells_at}
+use Rattle.std.proofs.Common.{◌∙◌, sym}
 use Rattle.bench_lines_dm.proofs.PlainTables.{are_found, as_many_columns, moved_rows, rows_moved, text_columns}
 use Rattle.bench_lines_dm.proofs.inverted.is_table.Goals as goal
 

@@ -1,4 +1,4 @@
-use Rattle.std.proofs.Common.{◌≡◌, ◌∙◌, List, ap, get_or}
+use Rattle.std.proofs.Common.{◌∙◌, List, ap, get_or}
 use Rattle.schema_dm.specs.declared.table.Table.{Table}
 use Rattle.bench_lines_dm.proofs.PlainTables.{found_few, found_once, found_plain, is_there}
 use Rattle.bench_lines_dm.proofs.inverted.stands_in.Goals as goal

@@ -1,4 +1,4 @@
-use Rattle.std.proofs.Common.{◌≡◌, ◌∙◌, subst, sym}
+use Rattle.std.proofs.Common.{◌∙◌, subst, sym}
 use Rattle.table_csv.specs.Databases.{Data}
 use Rattle.keys_dm.specs.Violations.{KeepsKeys}
 use Rattle.algebra_dm.specs.Nodes.{IsWellFormed}

@@ -1,4 +1,4 @@
-use Rattle.std.proofs.Common.{◌≡◌, ◌∙◌, ℕ, List, [], ◌++◌, Option, Some, sym, subst, ap}
+use Rattle.std.proofs.Common.{◌≡◌, ℕ, List, [], Option, Some, sym, subst, ap}
 use Rattle.std.specs.Io.KnownBytes.{Appends}
 use Rattle.outside_dm.specs.Sinks.{SinkState}
 use Rattle.graphs_dm.specs.Graphs.{IsGraphText}

@@ -1,9 +1,9 @@
-use Rattle.std.proofs.Common.{◌≡◌, ◌∙◌, ◌+◌, ◌<◌, ◌≤◌, List, [], length, take, ap, arith, get_or}
+use Rattle.std.proofs.Common.{◌≡◌, ◌∙◌, List, [], length, ap, arith}
 use Rattle.std.specs.Prelude.{sum_by}
 use Rattle.std.proofs.lemmas.List.{take_all}
 use Rattle.std.proofs.lemmas.List.Sums.{sum_by_more}
 use Rattle.schema_dm.specs.declared.table.Table.{Table}
-use Rattle.table_csv.specs.Cells.{AreRowsOf, Row}
+use Rattle.table_csv.specs.Cells.{Row}
 use Rattle.table_csv.specs.Databases.{rows_at}
 use Rattle.bench_lines_dm.proofs.PlainLimits.{few_rows}
 use Rattle.bench_lines_dm.proofs.PlainTables.{paired_count}
