@@ -34,8 +34,9 @@ use Rattle.algebra_dm.specs.declared.error.QueryError.TheVariants as query
 use Rattle.algebra_dm.specs.declared.query.Query.{Query}
 use Rattle.query_text_dm.proofs.OneAnswer.{one_answer as one_read}
 use Rattle.query_lines_dm.proofs.OneText.{query_lines_one}
+use Rattle.bench_lines_dm.proofs.OneText.{bench_text_one}
 use Rattle.cmd_dm.proofs.Answered.{answers_one, pattern_text_one}
-use Rattle.cmd_dm.specs.Questions.{Question, AnswerTo, Answers, IsSchemaAnswer, IsRowsAnswer, IsTriplesAnswer, IsQueryAnswer, schema_of, rows_of, triples_of, verdict_of, violations_of, graph_of, batch_of, removals_of, left_of, files_of, inverse_of, query_of, lines_of, pattern_of, answers_of}
+use Rattle.cmd_dm.specs.Questions.{Question, AnswerTo, Answers, IsSchemaAnswer, IsRowsAnswer, IsTriplesAnswer, IsQueryAnswer, schema_of, rows_of, triples_of, verdict_of, violations_of, graph_of, batch_of, removals_of, left_of, files_of, inverse_of, query_of, lines_of, pattern_of, answers_of, bench_of}
 use Rattle.outside_dm.specs.Storing.{Batch}
 use Rattle.schema_dm.specs.declared.table.ShapeTable.{ShapeTable}
 use Rattle.table_csv.proofs.OneText.{text_one}
@@ -208,6 +209,7 @@ answer_unique (query_of tables bytes) a b h k = query_answer_unique tables bytes
 answer_unique (lines_of D q) a b h k = query_lines_one D q a b h k
 answer_unique (pattern_of mode base tables q) a b h k = pattern_text_one mode base tables q h.0 a b h.1 k.1
 answer_unique (answers_of mode base tables q triples) a b h k = answers_one mode base tables q h.0 triples a b h.1 k.1
+answer_unique (bench_of D) a b h k = bench_text_one D a b h k
 
 after_load_unique : (file : File) (content : Option (List ℕ)) (rest : List ℕ → Outcome → Type 0) →
     ((bytes : List ℕ) (o p : Outcome) → rest bytes o → rest bytes p → o ≡ p) →

@@ -1,9 +1,10 @@
 -- The commands: each as a script, with the devices that it writes to.
-use Rattle.std.specs.Prelude.{◌≡◌, ℕ, List, Option, Some, None, IfSome, encode_utf8_all}
+use Rattle.std.specs.Prelude.{◌≡◌, ◌≤◌, ℕ, List, Option, Some, None, IfSome, encode_utf8_all}
 use Rattle.outside_dm.specs.Shelves.{Files}
 use Rattle.graphs_dm.specs.declared.graph_name.GraphName.TheVariants as graph
 use Rattle.cmd_dm.specs.Append.{append_script}
 use Rattle.cmd_dm.specs.Ask.{ask_script, translate_script}
+use Rattle.cmd_dm.specs.Bench.{bench_script}
 use Rattle.cmd_dm.specs.Check.{check_script}
 use Rattle.cmd_dm.specs.Consistent.{consistent_script}
 use Rattle.cmd_dm.specs.Clean.{clean_script}
@@ -17,7 +18,7 @@ use Rattle.cmd_dm.specs.Script.{Script, Outcome, usage, Comes}
 use Rattle.cmd_dm.specs.declared.status.File.{File}
 use Rattle.cmd_dm.specs.declared.status.File.TheVariants.{Schema, Query, Graph}
 use Rattle.cmd_dm.specs.declared.command.Command.{Command}
-use Rattle.cmd_dm.specs.declared.command.Command.TheVariants.{Direct, Map, MapKeys, Check, Show, Consistent, Clean, Append, Invert, Rows, Translate, Ask}
+use Rattle.cmd_dm.specs.declared.command.Command.TheVariants.{Direct, Map, MapKeys, Check, Show, Consistent, Clean, Append, Invert, Rows, Translate, Ask, Bench}
 
 pub record Plan : Type 0 where
   pub target : Target
@@ -36,6 +37,12 @@ plan_of (Translate mode base folder name) = record { target = to_output; script 
 plan_of (Ask mode base folder document name) = record { target = to_output; script = ask_script mode base folder document name }
 plan_of (Show name) = record { target = to_output; script = show_script name }
 plan_of (Consistent name) = record { target = to_output; script = consistent_script name }
+plan_of (Bench n) = record { target = to_output; script = bench_script n }
+
+-- the number of the benchmark is one that words give
+abbrev pub IsWithin : Command → Type 0
+IsWithin (Bench n) = n ≤ 50000
+IsWithin _ = Unit {0}
 
 -- the schema's file, where it is the file
 abbrev pub folder_file : List ℕ → File → Option (List ℕ)
@@ -72,6 +79,7 @@ file_of (Translate mode base folder name) file = rows_file folder name file
 file_of (Ask mode base folder document name) file = ask_file folder document name file
 file_of (Show name) file = graph_file name file
 file_of (Consistent name) file = graph_file name file
+file_of (Bench n) file = None
 
 -- this is the name of the file, where the words alone name it
 abbrev pub NamesFile : Command → File → List ℕ → Type 0

@@ -39,6 +39,7 @@ use Rattle.algebra_dm.specs.declared.query.Mode.{Mode}
 use Rattle.algebra_dm.specs.declared.query.Query.{Query}
 use Rattle.query_text_dm.specs.Answer.{IsAnswer as IsReadAs}
 use Rattle.query_lines_dm.specs.Lines.{AreQueryLines}
+use Rattle.bench_lines_dm.specs.Bench.{IsBenchText}
 use Rattle.cmd_dm.specs.Answered.{AreAnswersIn, IsPatternText}
 use Rattle.cmd_dm.specs.Folder.{AreFilesOf, AreFolderFiles}
 use Rattle.cmd_dm.specs.Reasons.{ddl_status, graph_status, inverse_status, query_status, table_status}
@@ -76,6 +77,8 @@ pub data Question : Type 0 where
   pattern_of : Mode → List ℕ → List Table → Query → Question
   -- the lines of the solutions of this pattern over the triples, where the tables are a schema's
   answers_of : Mode → List ℕ → List Table → Query → List Statement → Question
+  -- the lines of what is counted of the database
+  bench_of : Data → Question
 
 -- what an answer to the question is: a value, or why the bytes are refused
 abbrev pub AnswerTo : Question → Type 0
@@ -94,6 +97,7 @@ AnswerTo (query_of tables bytes) = Result Query Reason
 AnswerTo (lines_of D q) = List ℕ
 AnswerTo (pattern_of mode base tables q) = List ℕ
 AnswerTo (answers_of mode base tables q triples) = List ℕ
+AnswerTo (bench_of D) = List ℕ
 
 abbrev pub IsSchemaAnswer : List ℕ → Result (List Table) Reason → Type 0
 IsSchemaAnswer bytes (Ok tables) = IsDdl bytes tables
@@ -139,3 +143,4 @@ Answers (query_of tables bytes) answer = IsQueryAnswer tables bytes answer
 Answers (lines_of D q) text = AreQueryLines D q text
 Answers (pattern_of mode base tables q) text = IsSchema tables × IsPatternText mode base tables q text
 Answers (answers_of mode base tables q triples) text = IsSchema tables × AreAnswersIn mode base tables q triples text
+Answers (bench_of D) text = IsBenchText D text
