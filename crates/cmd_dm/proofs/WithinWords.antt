@@ -1,7 +1,9 @@
 -- The number that words give `bench` is at most 50,000.
-use Rattle.std.proofs.Common.{◌≤◌, ℕ, List, [], ◌∷◌, Option, Some, None, Bool, true, false, chars}
+use Rattle.std.proofs.Common.{◌≤◌, ℕ, List, [], ◌∷◌, Option, Some, None, Bool, true, false, chars, codes}
 use Rattle.std.specs.Prelude.{IfSome, if◌then◌else◌}
 use Rattle.std.specs.Option.{option_map}
+use Rattle.std.specs.Str.{bytes_eq}
+use Rattle.members_dm.specs.Elements.{Each}
 use Rattle.value_dm.specs.declared.mode.NullMode.{NullMode}
 use Rattle.graphs_dm.specs.declared.graph_name.GraphName.{GraphName}
 use Rattle.graphs_dm.specs.declared.graph_name.GraphName.TheVariants as graph
@@ -15,9 +17,18 @@ mapped : {A : Type 0} (f : A → Command) → ((a : A) → IsWithin (f a)) → (
 mapped f each None = tt
 mapped f each (Some a) = each a
 
+-- the command behind the first of these names that is this one
+abbrev first_named : List ℕ → List (List ℕ × Option Command) → Option Command
+first_named name [] = None
+first_named name (named ∷ others) = if bytes_eq name named.0 then named.1 else first_named name others
+
 chosen : (b : Bool) (x y : Option Command) → IfSome x IsWithin → IfSome y IsWithin → IfSome (if b then x else y) IsWithin
 chosen true x y h k = h
 chosen false x y h k = k
+
+named_within : (name : List ℕ) (commands : List (List ℕ × Option Command)) → Each (λ (named : List ℕ × Option Command). IfSome named.1 IsWithin) commands → IfSome (first_named name commands) IsWithin
+named_within name [] h = tt
+named_within name (named ∷ others) h = chosen (bytes_eq name named.0) named.1 (first_named name others) h.0 (named_within name others h.1)
 
 graph_named : (name : GraphName) (base folder : List ℕ) (nulls : NullMode) → IsWithin (graph_command name base folder nulls)
 graph_named graph.Direct base folder nulls = tt
@@ -101,6 +112,8 @@ bench_within (number ∷ word ∷ words) = tt
 pub within_words : (words : List (List ℕ)) → IfSome (command_of words) IsWithin
 within_words [] = tt
 within_words (name ∷ words) =
-    chosen _ _ _ (graph_within graph.Direct words) (chosen _ _ _ (graph_within graph.Map words) (chosen _ _ _ (graph_within graph.MapKeys words)
-    (chosen _ _ _ (check_within words) (chosen _ _ _ (clean_within words) (chosen _ _ _ (append_within words) (chosen _ _ _ (invert_within words) (chosen _ _ _ (rows_within words)
-    (chosen _ _ _ (translate_within words) (chosen _ _ _ (ask_within words) (chosen _ _ _ (sparql_within words) (chosen _ _ _ (show_within words) (chosen _ _ _ (consistent_within words) (chosen _ _ _ (bench_within words) tt)))))))))))))
+    named_within name (
+    (codes "direct", graph_words graph.Direct words) ∷ (codes "map", graph_words graph.Map words) ∷ (codes "map-keys", graph_words graph.MapKeys words) ∷ (codes "check", check_of words) ∷ (codes "clean", clean_of words) ∷ (codes "append", append_of words) ∷ (codes "invert", invert_of words) ∷ (codes "rows", rows_of words) ∷ (codes "translate", translate_of words) ∷ (codes "ask", ask_of words) ∷ (codes "sparql", sparql_of words) ∷ (codes "show", show_of words) ∷ (codes "consistent", consistent_of words) ∷ (codes "bench", bench_of words) ∷ []) (
+      graph_within graph.Direct words,
+      (graph_within graph.Map words, (graph_within graph.MapKeys words, (check_within words, (clean_within words, (append_within words, (invert_within words, (rows_within words, (translate_within words, (ask_within words, (sparql_within words, (show_within words, (consistent_within words, (bench_within words, tt))))))))))))),
+    )
