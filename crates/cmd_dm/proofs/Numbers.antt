@@ -23,7 +23,7 @@ pub read_small : (E : Type 0) (bs : List ℕ) → 0 < length bs → 49 ≤ get_o
 read_small E [] some first number h small = absurd (omega arith)
 read_small E (digit ∷ digits) some first number h small =
     let value : ℕ = digits_value 10 (digit ∷ digits) in
-    let read = parse_plain numerals 32 (digit ∷ digits) (Ok number) h (λ e. omega (arith, e)) in
+    let read = parse_plain {E = E} numerals 32 (digit ∷ digits) (Ok number) h (λ e. omega (arith, e)) in
     let first_is = le-leb 49 digit first in
     let all_are = read.0.0 in
     let small_is = le-leb value 50000 (omega (arith, read.1)) in
@@ -33,7 +33,7 @@ pub read_large : (E : Type 0) (bs : List ℕ) → 0 < length bs → 49 ≤ get_o
 read_large E [] some first number h large = absurd (omega arith)
 read_large E (digit ∷ digits) some first number h large =
     let value : ℕ = digits_value 10 (digit ∷ digits) in
-    let read = parse_plain numerals 32 (digit ∷ digits) (Ok number) h (λ e. omega (arith, e)) in
+    let read = parse_plain {E = E} numerals 32 (digit ∷ digits) (Ok number) h (λ e. omega (arith, e)) in
     let first_is = le-leb 49 digit first in
     let all_are = read.0.0 in
     let large_is = lt-leb value 50000 (omega (arith, read.1)) in
@@ -47,7 +47,7 @@ read_none E (digit ∷ digits) some first error h = go (all_ascii_digits (digit 
     value = digits_value 10 (digit ∷ digits)
 
     not_read : ¬ ((all_ascii_digits (digit ∷ digits) ≡ true) × (0 < length (digit ∷ digits)) × (digits_value 10 (digit ∷ digits) < 2 ^ 32))
-    not_read = parse_plain numerals 32 (digit ∷ digits) (Err error) h (λ e. omega (arith, e))
+    not_read = parse_plain {E = E} numerals 32 (digit ∷ digits) (Err error) h (λ e. omega (arith, e))
 
     go : (all small : Bool) → all_ascii_digits (digit ∷ digits) ≡ all → nat_le (digits_value 10 (digit ∷ digits)) 50000 ≡ small → ◌≡◌ {A = Option ℕ} None (number_of (digit ∷ digits))
     go false small e f = λ i. tested (sym (le-leb 49 digit first) i) (sym e i) (nat_le (digits_value 10 (digit ∷ digits)) 50000) (digits_value 10 (digit ∷ digits))
