@@ -1,5 +1,5 @@
 -- What a word of digits is read as.
-use Rattle.std.proofs.Common.{◌≡◌, ◌∙◌, ◌<◌, ◌≤◌, ◌^◌, ℕ, List, [], ◌∷◌, Option, Some, None, Result, Ok, Err, Bool, true, false, refl, sym, ap, arith, length, get_or, nat_le, cond}
+use Rattle.std.proofs.Common.{◌≡◌, ◌∙◌, ◌<◌, ◌≤◌, ◌^◌, ℕ, List, [], ◌∷◌, Option, Some, None, Ok, Err, Bool, true, false, refl, sym, ap, arith, length, get_or, nat_le, cond}
 use Rattle.std.specs.Prelude.{◌&&◌, IfSome}
 use Rattle.std.specs.Str.{all_ascii_digits}
 use Rattle.std.specs.Str.Parse.{ParsesUnsigned, digits_value}
@@ -19,35 +19,35 @@ no_digit digit digits small =
     let no = lt-leb 49 digit small in
     λ i. tested (sym no i) (all_ascii_digits (digit ∷ digits)) (nat_le (digits_value 10 (digit ∷ digits)) 50000) (digits_value 10 (digit ∷ digits))
 
-pub read_small : (E : Type 0) (bs : List ℕ) → 0 < length bs → 49 ≤ get_or bs 0 0 → (number : ℕ) → ParsesUnsigned {E = E} 32 10 bs (Ok number) → number ≤ 50000 → Some number ≡ number_of bs
-read_small E [] some first number h small = absurd (omega arith)
-read_small E (digit ∷ digits) some first number h small =
+pub read_small : (bs : List ℕ) → 0 < length bs → 49 ≤ get_or bs 0 0 → (number : ℕ) → ParsesUnsigned {E = Unit {0}} 32 10 bs (Ok number) → number ≤ 50000 → Some number ≡ number_of bs
+read_small [] some first number h small = absurd (omega arith)
+read_small (digit ∷ digits) some first number h small =
     let value : ℕ = digits_value 10 (digit ∷ digits) in
-    let read = parse_plain {E = E} numerals 32 (digit ∷ digits) (Ok number) h (λ e. omega (arith, e)) in
+    let read = parse_plain numerals {E = Unit {0}} 32 (digit ∷ digits) (Ok number) h (λ e. omega (arith, e)) in
     let first_is = le-leb 49 digit first in
     let all_are = read.0.0 in
     let small_is = le-leb value 50000 (omega (arith, read.1)) in
     ap (λ (n : ℕ). Some n) read.1 ∙ (λ i. tested (sym first_is i) (sym all_are i) (sym small_is i) value)
 
-pub read_large : (E : Type 0) (bs : List ℕ) → 0 < length bs → 49 ≤ get_or bs 0 0 → (number : ℕ) → ParsesUnsigned {E = E} 32 10 bs (Ok number) → 50000 < number → ◌≡◌ {A = Option ℕ} None (number_of bs)
-read_large E [] some first number h large = absurd (omega arith)
-read_large E (digit ∷ digits) some first number h large =
+pub read_large : (bs : List ℕ) → 0 < length bs → 49 ≤ get_or bs 0 0 → (number : ℕ) → ParsesUnsigned {E = Unit {0}} 32 10 bs (Ok number) → 50000 < number → ◌≡◌ {A = Option ℕ} None (number_of bs)
+read_large [] some first number h large = absurd (omega arith)
+read_large (digit ∷ digits) some first number h large =
     let value : ℕ = digits_value 10 (digit ∷ digits) in
-    let read = parse_plain {E = E} numerals 32 (digit ∷ digits) (Ok number) h (λ e. omega (arith, e)) in
+    let read = parse_plain numerals {E = Unit {0}} 32 (digit ∷ digits) (Ok number) h (λ e. omega (arith, e)) in
     let first_is = le-leb 49 digit first in
     let all_are = read.0.0 in
     let large_is = lt-leb value 50000 (omega (arith, read.1)) in
     λ i. tested (sym first_is i) (sym all_are i) (sym large_is i) value
 
-pub read_none : (E : Type 0) (bs : List ℕ) → 0 < length bs → 49 ≤ get_or bs 0 0 → (error : E) → ParsesUnsigned {E = E} 32 10 bs (Err error) → ◌≡◌ {A = Option ℕ} None (number_of bs)
-read_none E [] some first error h = absurd (omega arith)
-read_none E (digit ∷ digits) some first error h = go (all_ascii_digits (digit ∷ digits)) (nat_le value 50000) refl refl
+pub read_none : (bs : List ℕ) → 0 < length bs → 49 ≤ get_or bs 0 0 → ParsesUnsigned {E = Unit {0}} 32 10 bs (Err tt) → ◌≡◌ {A = Option ℕ} None (number_of bs)
+read_none [] some first h = absurd (omega arith)
+read_none (digit ∷ digits) some first h = go (all_ascii_digits (digit ∷ digits)) (nat_le value 50000) refl refl
   where
     value : ℕ
     value = digits_value 10 (digit ∷ digits)
 
     not_read : ¬ ((all_ascii_digits (digit ∷ digits) ≡ true) × (0 < length (digit ∷ digits)) × (digits_value 10 (digit ∷ digits) < 2 ^ 32))
-    not_read = parse_plain {E = E} numerals 32 (digit ∷ digits) (Err error) h (λ e. omega (arith, e))
+    not_read = parse_plain numerals {E = Unit {0}} 32 (digit ∷ digits) (Err tt) h (λ e. omega (arith, e))
 
     go : (all small : Bool) → all_ascii_digits (digit ∷ digits) ≡ all → nat_le (digits_value 10 (digit ∷ digits)) 50000 ≡ small → ◌≡◌ {A = Option ℕ} None (number_of (digit ∷ digits))
     go false small e f = λ i. tested (sym (le-leb 49 digit first) i) (sym e i) (nat_le (digits_value 10 (digit ∷ digits)) 50000) (digits_value 10 (digit ∷ digits))
