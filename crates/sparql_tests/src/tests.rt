@@ -1,4 +1,4 @@
-use command_trials::{Fault, add_file, ends_as_told, ends_so, files_of, files_with, output_of};
+use command_trials::{Fault, add_file, ends_so, files_of, files_with, first_wrong, output_of};
 use std::alloc::Global;
 
 // The words, the files, each with its name behind `+` and then its lines, and how the run ends.
@@ -183,10 +183,8 @@ SELECT DISTINCT ?a ?b WHERE { SELECT ?b (?c AS ?a) WHERE { ?b <http://a.example/
 
 #[test]
 fn cases(rt: HostRuntime) {
-    for case in CASES {
-        let found = ends_as_told(rt.alloc(), case);
-        assert!(rt; found, "{case}");
-    }
+    let wrong = first_wrong(rt.alloc(), "", &CASES);
+    assert!(rt; wrong.len() == 0, "{wrong}");
 }
 
 // A folder, and its text of a pattern.
