@@ -16,7 +16,7 @@ use Rattle.cmd_dm.specs.Folder.{table_file}
 use Rattle.cmd_dm.specs.Reasons.{reason}
 use Rattle.cmd_dm.specs.Script.{Script, load, refuse}
 use Rattle.cmd_dm.proofs.Endings.{ends_refused, leads_refl}
-use Rattle.cmd_dm.proofs.PlainLimits.{few_rows}
+use Rattle.bench_lines_dm.proofs.PlainLimits.{few_rows}
 use Rattle.cmd_dm.proofs.StepLaws.{drop_from}
 use Rattle.cmd_dm.specs.declared.status.File.TheVariants as file
 use Rattle.cmd_dm.specs.declared.status.Status.TheVariants.{Refused}

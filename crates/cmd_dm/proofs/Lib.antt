@@ -8,7 +8,8 @@ pub mod StepLaws
 pub mod Found
 pub mod Subjects
 pub mod FileLemmas
-pub mod PlainLimits
+pub mod Numbers
+pub mod WithinWords
 pub mod Further
 pub mod Batches
 pub mod SomeOutcome

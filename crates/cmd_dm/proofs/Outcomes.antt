@@ -40,7 +40,8 @@ use Rattle.sparql_text_dm.specs.declared.error.SparqlError.TheVariants as sparql
 use Rattle.sparql_text_dm.specs.declared.parsed.Parsed.{Parsed}
 use Rattle.sparql_text_dm.proofs.OneAnswer.{one_answer as one_parsed}
 use Rattle.cmd_dm.proofs.Answered.{answers_one, pattern_text_one}
-use Rattle.cmd_dm.specs.Questions.{Question, AnswerTo, Answers, IsSchemaAnswer, IsRowsAnswer, IsTriplesAnswer, IsQueryAnswer, IsParsedAnswer, parsed_of, solutions_of, schema_of, rows_of, triples_of, verdict_of, violations_of, graph_of, batch_of, removals_of, left_of, files_of, inverse_of, query_of, lines_of, pattern_of, answers_of}
+use Rattle.cmd_dm.specs.Questions.{Question, AnswerTo, Answers, IsSchemaAnswer, IsRowsAnswer, IsTriplesAnswer, IsQueryAnswer, IsParsedAnswer, parsed_of, solutions_of, schema_of, rows_of, triples_of, verdict_of, violations_of, graph_of, batch_of, removals_of, left_of, files_of, inverse_of, query_of, lines_of, pattern_of, answers_of, bench_of}
+use Rattle.bench_lines_dm.proofs.OneText.{bench_text_one}
 use Rattle.outside_dm.specs.Storing.{Batch}
 use Rattle.schema_dm.specs.declared.table.ShapeTable.{ShapeTable}
 use Rattle.table_csv.proofs.OneText.{text_one}
@@ -249,6 +250,7 @@ answer_unique (pattern_of mode base tables q) a b h k = pattern_text_one mode ba
 answer_unique (answers_of mode base tables q triples) a b h k = answers_one mode base tables q h.0 triples a b h.1 k.1
 answer_unique (parsed_of bytes) a b h k = parsed_answer_unique bytes a b h k
 answer_unique (solutions_of parsed triples) a b h k = solution_lines_one triples parsed.pattern parsed.header a b h k
+answer_unique (bench_of D) a b h k = bench_text_one D a b h k
 
 after_load_unique : (file : File) (content : Option (List ℕ)) (rest : List ℕ → Outcome → Type 0) →
     ((bytes : List ℕ) (o p : Outcome) → rest bytes o → rest bytes p → o ≡ p) →

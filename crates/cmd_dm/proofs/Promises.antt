@@ -68,6 +68,9 @@ use Rattle.cmd_dm.specs.Append.{append_script, batch_keys_step, batch_script, fe
 use Rattle.cmd_dm.specs.Answered.{AreAnswersIn, IsPatternText}
 use Rattle.cmd_dm.specs.Ask.{answers_script, ask_script, pattern_script, question_script, translate_script}
 use Rattle.cmd_dm.specs.Check.{check_script, check_text}
+use Rattle.bench_dm.specs.Generated.{generated}
+use Rattle.bench_lines_dm.specs.Bench.{IsBenchText}
+use Rattle.cmd_dm.specs.Bench.{bench_script}
 use Rattle.cmd_dm.specs.Consistent.{consistent_script, verdict_text}
 use Rattle.cmd_dm.specs.Rows.{rows_script}
 use Rattle.cmd_dm.specs.Show.{show_script}
@@ -82,7 +85,7 @@ use Rattle.cmd_dm.specs.Ending.{Ends, NoFault, Target, to_output, to_both, to_sh
 use Rattle.cmd_dm.specs.Invert.{files_work, invert_script}
 use Rattle.cmd_dm.proofs.Inverses.{inverse_answer_unique, inverse_files, files_some}
 use Rattle.cmd_dm.proofs.StoredTables.{are_stored}
-use Rattle.cmd_dm.proofs.PlainLimits.{plain_within}
+use Rattle.bench_lines_dm.proofs.PlainLimits.{plain_within}
 use Rattle.cmd_dm.specs.Folder.{schema_file, table_file, shape_of}
 use Rattle.cmd_dm.specs.Headline.{HoldsFile, HoldsTables, HoldsDatabase, EndsSo, WritesText, WritesKept, WritesFolder, Checks, Shows, Judges, Promises, Cleans, IsCleanWork, TellsKeys, Inverts, StoresTables, AreStored, GivesBack, IsGraphFile, AnswersOver, AnswersQuery, HoldsQuestion, RefusesFault, RefusesPattern, WritesAnswer, WritesBatch, WritesSolutions}
 use Rattle.cmd_dm.specs.Plans.{IsOutcome, NamesFile, ask_file, folder_file, graph_file, plan_of, rows_file, sparql_file}
@@ -99,7 +102,7 @@ use Rattle.cmd_dm.proofs.Outcomes.{outcome_unique, schema_answer_unique, rows_an
 use Rattle.cmd_dm.proofs.LawfulQueries.{read_lawful}
 use Rattle.cmd_dm.proofs.SomeOutcome.{declared_schema}
 use Rattle.cmd_dm.specs.declared.command.Command.{Command}
-use Rattle.cmd_dm.specs.declared.command.Command.TheVariants.{Direct, Map, MapKeys, Check, Show, Consistent, Clean, Append, Invert, Rows, Translate, Ask, Sparql}
+use Rattle.cmd_dm.specs.declared.command.Command.TheVariants.{Direct, Map, MapKeys, Check, Show, Consistent, Clean, Append, Invert, Rows, Translate, Ask, Sparql, Bench}
 use Rattle.cmd_dm.specs.declared.status.File.{File}
 use Rattle.cmd_dm.specs.declared.status.File.TheVariants.{Schema, Table as TableFile, Query, Graph, Pattern, More}
 use Rattle.cmd_dm.specs.declared.status.Reason.{Reason}
@@ -463,6 +466,7 @@ command_names (Append base folder more nulls) file name h = append_names base fo
 command_names (Invert base document out) file name h = invert_names base document out file name h
 command_names (Clean folder out nulls) file name h = folder_names folder nulls (cleaned out) file name (λ loaded file h. h.1.1.1.1.1.1) h
 command_names (Check folder nulls) file name h = database_names folder nulls checked file name (λ D file h. h.1.1) h
+command_names (Bench n) file name h = absurd h.1.1
 
 -- the file at which the shelf failed is the one that was told
 pub names_failed : (command : Command) (file : File) {s t : ShelfState} {o p : SinkState} (status : Status) →
@@ -996,6 +1000,9 @@ module _ (base folder more : List ℕ) (nulls : NullMode) (files : Files) (D bat
           subst (λ (tables : List Table). IsDatabase (record { tables = tables; rows = batch.rows })) (sym fits.tables)
           (record { schema = database.schema; rows = held_rows files more nulls D.tables batch.rows (λ t m. (database.schema.each t m).distinct) there })
 
+benches : (n : ℕ) (files : Files) {s t : ShelfState} {o p : SinkState} (status : Status) → Ends to_output (bench_script n) s t o p status → s.files ≡ Some files → WritesText (IsBenchText (generated n)) s t o p status
+benches n files status ends told = writes_text (IsBenchText (generated n)) (bench_script n) status files ends told (λ outcome h. (h.0, (h.1.0, h.1.1)))
+
 -- each command keeps its promise
 pub promised : (command : Command) {s t : ShelfState} {o p : SinkState} (status : Status) → Ends (plan_of command).target (plan_of command).script s t o p status → Promises command s t o p status
 promised (Direct base folder nulls) status ends = writes_graph graph.Direct base folder nulls status ends
@@ -1018,3 +1025,4 @@ promised (Show document) status ends = λ files bytes triples told held is few. 
 promised (Clean folder out nulls) status ends = λ files D told held. cleans folder out nulls files D status ends told held
 promised (Consistent document) status ends = λ files bytes triples told held is few. (judges document files bytes triples status ends told held is few, tells_keys bytes triples is)
 promised (Check folder nulls) status ends = λ files D told held. checks folder nulls files D status ends told held
+promised (Bench n) status ends = λ files told. benches n files status ends told

@@ -1,6 +1,6 @@
 -- Something comes of each command, over all files.
 use Rattle.std.proofs.Common.{◌≡◌, ◌∙◌, ◌++◌, ◌≤◌, arith, append_assoc, ⊎_elim, ℕ, ◌+◌, List, [], ◌∷◌, length, Option, Some, None, Result, Ok, Err, refl, true, false, Bool, nat_lt, subst, sym, cond, inl, inr}
-use Rattle.std.specs.Prelude.{IsTrue, MatchBool, encode_utf8_all, map, option_to_list}
+use Rattle.std.specs.Prelude.{IfSome, IsTrue, MatchBool, encode_utf8_all, map, option_to_list}
 use Rattle.std.specs.List.{AllZip, flat_map}
 use Rattle.std.specs.FinMap.{get}
 use Rattle.std.proofs.lemmas.Bool.{cases_lt, le-ltb, lt-ltb}
@@ -58,6 +58,7 @@ use Rattle.algebra_dm.specs.Nodes.{IsWellFormed}
 use Rattle.query_text_dm.specs.Answer.{IsAnswer as IsReadAs}
 use Rattle.query_lines_dm.proofs.SomeLines.{query_lines_some}
 use Rattle.query_lines_dm.proofs.SomeQuery.{query_some, read_formed}
+use Rattle.bench_lines_dm.proofs.OneText.{bench_text_some}
 use Rattle.cmd_dm.specs.Append.{append_script, batch_keys_step, batch_script, few_step, further_rows_step, further_tables_step, more_step, on_batch_violations}
 use Rattle.cmd_dm.specs.Ask.{answers_script, ask_script, pattern_script, question_script, translate_script}
 use Rattle.cmd_dm.specs.Clean.{clean_script, clean_work}
@@ -65,8 +66,9 @@ use Rattle.cmd_dm.specs.Folder.{AreFilesOf, schema_file, shape_of, table_file}
 use Rattle.cmd_dm.specs.GraphScript.{graph_script}
 use Rattle.cmd_dm.specs.Invert.{files_work, invert_script}
 use Rattle.cmd_dm.proofs.Inverses.{inverse_answer_some}
-use Rattle.cmd_dm.specs.Plans.{IsOutcome}
+use Rattle.cmd_dm.specs.Plans.{IsOutcome, IsWithin}
 use Rattle.cmd_dm.specs.Questions.{IsSchemaAnswer, IsRowsAnswer, IsTriplesAnswer, IsQueryAnswer, IsParsedAnswer, solutions_of, answers_of, batch_of, lines_of, graph_of, verdict_of, violations_of, files_of, left_of, removals_of}
+use Rattle.cmd_dm.specs.Bench.{bench_script}
 use Rattle.cmd_dm.specs.Reasons.{bad_base, batch_reason, cause_code, key_reason, reason}
 use Rattle.cmd_dm.specs.Script.{Script, Outcome, usage, refused, absent, too_long, done, text_work, AfterLoad, Comes, ask, refuse, write}
 use Rattle.cmd_dm.specs.Steps.{base_step, database_step, declared_step, folder_step, graph_step, inverse_step, kept_step, keys_step, on_answer, on_violations, parsed_step, parsed_text_step, query_step, query_text_step, rows_step, schema_step, tables_step, triples_step}
@@ -86,7 +88,7 @@ use Rattle.cmd_dm.proofs.Answered.{answers_some, pattern_text_some}
 use Rattle.cmd_dm.proofs.Batches.{batch_text_some}
 use Rattle.cmd_dm.proofs.Further.{FewBehind, few_alone, few_cons, in_all}
 use Rattle.cmd_dm.proofs.Subjects.{document_subjects}
-use Rattle.cmd_dm.specs.declared.command.Command.TheVariants.{Direct, Map, MapKeys, Check, Show, Consistent, Clean, Append, Invert, Rows, Translate, Ask, Sparql}
+use Rattle.cmd_dm.specs.declared.command.Command.TheVariants.{Direct, Map, MapKeys, Check, Show, Consistent, Clean, Append, Invert, Rows, Translate, Ask, Sparql, Bench}
 use Rattle.cmd_dm.specs.declared.status.File.{File}
 use Rattle.cmd_dm.specs.declared.status.File.TheVariants.{Schema, Table as TableFile, Graph, Query as QueryFile, Pattern as PatternFile, More}
 use Rattle.cmd_dm.specs.declared.status.Reason.{Reason}
@@ -493,21 +495,25 @@ append_some files base folder more nulls =
     let text = batch_text_some base good D batch database batch_is fits kept whole_kept in
     none (done (text_work text.0)) (text.0, (text.1, refl)))))))
 
+bench_some : (files : Files) (n : ℕ) → n ≤ 50000 → SomeComes files (bench_script n)
+bench_some files n small none = bench_text_some n small (λ text is. none (done (text_work text)) (text, (is, refl)))
+
 -- something comes of words
-pub words_some : (files : Files) (command : Option Command) → ¬ ((outcome : Outcome) → ¬ IsOutcome files command outcome)
-words_some files None none = none usage refl
-words_some files (Some (Direct base folder nulls)) none = graph_some files graph.Direct base folder nulls none
-words_some files (Some (Map base folder nulls)) none = graph_some files graph.Map base folder nulls none
-words_some files (Some (MapKeys base folder nulls)) none = graph_some files graph.MapKeys base folder nulls none
-words_some files (Some (Clean folder out nulls)) none = clean_some files folder out nulls none
-words_some files (Some (Append base folder more nulls)) none = append_some files base folder more nulls none
-words_some files (Some (Invert base name out)) none = invert_some files base name out none
-words_some files (Some (Rows folder name nulls)) none = query_rows_some files folder name nulls none
-words_some files (Some (Translate mode base folder name)) none = translate_some files mode base folder name none
-words_some files (Some (Ask mode base folder document name)) none = ask_some files mode base folder document name none
-words_some files (Some (Sparql document name)) none = sparql_some files document name none
-words_some files (Some (Show name)) none = show_some files name none
-words_some files (Some (Consistent name)) none = consistent_some files name none
-words_some files (Some (Check folder nulls)) none =
+pub words_some : (files : Files) (command : Option Command) → IfSome command IsWithin → ¬ ((outcome : Outcome) → ¬ IsOutcome files command outcome)
+words_some files None within none = none usage refl
+words_some files (Some (Direct base folder nulls)) within none = graph_some files graph.Direct base folder nulls none
+words_some files (Some (Map base folder nulls)) within none = graph_some files graph.Map base folder nulls none
+words_some files (Some (MapKeys base folder nulls)) within none = graph_some files graph.MapKeys base folder nulls none
+words_some files (Some (Clean folder out nulls)) within none = clean_some files folder out nulls none
+words_some files (Some (Append base folder more nulls)) within none = append_some files base folder more nulls none
+words_some files (Some (Invert base name out)) within none = invert_some files base name out none
+words_some files (Some (Rows folder name nulls)) within none = query_rows_some files folder name nulls none
+words_some files (Some (Translate mode base folder name)) within none = translate_some files mode base folder name none
+words_some files (Some (Ask mode base folder document name)) within none = ask_some files mode base folder document name none
+words_some files (Some (Sparql document name)) within none = sparql_some files document name none
+words_some files (Some (Show name)) within none = show_some files name none
+words_some files (Some (Consistent name)) within none = consistent_some files name none
+words_some files (Some (Check folder nulls)) within none =
     database_some files folder nulls (λ D. ask (violations_of D) (λ found. write (text_work (check_text D.tables found))))
     (λ D database none. violations_some D (λ found listed. none (done (text_work (check_text D.tables found))) (found, (listed, refl)))) none
+words_some files (Some (Bench n)) within none = bench_some files n within none

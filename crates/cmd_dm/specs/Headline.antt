@@ -53,6 +53,8 @@ use Rattle.graphs_dm.specs.Graphs.{AreTriplesOf, IsGraphText}
 use Rattle.graphs_dm.specs.Interpreted.{IsInterpretedWhereKept}
 use Rattle.graphs_dm.specs.declared.graph_name.GraphName.{GraphName}
 use Rattle.graphs_dm.specs.declared.graph_name.GraphName.TheVariants as graph
+use Rattle.bench_dm.specs.Generated.{generated}
+use Rattle.bench_lines_dm.specs.Bench.{IsBenchText}
 use Rattle.cmd_dm.specs.Answered.{AreAnswersIn, IsPatternText}
 use Rattle.cmd_dm.specs.Check.{check_text}
 use Rattle.cmd_dm.specs.Consistent.{verdict_text}
@@ -62,7 +64,7 @@ use Rattle.cmd_dm.specs.Clean.{clean_work}
 use Rattle.cmd_dm.specs.Reasons.{batch_reason, inverse_status, key_reason, query_status, sparql_status}
 use Rattle.cmd_dm.specs.Script.{Work}
 use Rattle.cmd_dm.specs.declared.command.Command.{Command}
-use Rattle.cmd_dm.specs.declared.command.Command.TheVariants.{Direct, Map, MapKeys, Check, Show, Consistent, Clean, Append, Invert, Rows, Translate, Ask, Sparql}
+use Rattle.cmd_dm.specs.declared.command.Command.TheVariants.{Direct, Map, MapKeys, Check, Show, Consistent, Clean, Append, Invert, Rows, Translate, Ask, Sparql, Bench}
 use Rattle.cmd_dm.specs.declared.status.Status.{Status}
 use Rattle.cmd_dm.specs.declared.status.Status.TheVariants.{Ok as Done, Refused, Memory}
 
@@ -243,7 +245,8 @@ pub record TellsKeys (bytes : List ℕ) (triples : List Statement) : Type 0 wher
   pub written : (base : List ℕ) (D : Data) (verdict : Verdict) → IsTrue (is_base base) → IsText base → IsDatabase D → IsGraphText graph.MapKeys base D bytes
       → IsVerdict triples verdict → (verdict ≡ Yes) ↔ KeepsKeys D
 
--- what each command promises where the shelf tells its files and they are well-formed
+-- what each command promises where the shelf tells its files and they are well-formed; `bench` writes the lines of what is counted of
+-- the benchmark's database
 abbrev pub Promises : Command → ShelfState → ShelfState → SinkState → SinkState → Status → Type 0
 Promises (Direct base folder nulls) old new before after status = WritesFolder graph.Direct base folder nulls old new before after status
 Promises (Map base folder nulls) old new before after status = WritesFolder graph.Map base folder nulls old new before after status
@@ -281,3 +284,4 @@ Promises (Show name) old new before after status =
 Promises (Consistent name) old new before after status =
     (files : Files) (bytes : List ℕ) (triples : List Statement) → old.files ≡ Some files → HoldsFile files (encode_utf8_all name) bytes → IsDocument bytes triples → length triples ≤ limit
     → Judges triples old new before after status × TellsKeys bytes triples
+Promises (Bench n) old new before after status = (files : Files) → old.files ≡ Some files → WritesText (IsBenchText (generated n)) old new before after status

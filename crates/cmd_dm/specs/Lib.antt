@@ -13,6 +13,7 @@ pub mod GraphScript
 pub mod Check
 pub mod Clean
 pub mod Append
+pub mod Bench
 pub mod Rows
 pub mod Ask
 pub mod Show

@@ -1,9 +1,10 @@
 -- The commands: each as a script, with the devices that it writes to.
-use Rattle.std.specs.Prelude.{◌≡◌, ℕ, List, Option, Some, None, IfSome, encode_utf8_all}
+use Rattle.std.specs.Prelude.{◌≡◌, ◌≤◌, ℕ, List, Option, Some, None, IfSome, encode_utf8_all}
 use Rattle.outside_dm.specs.Shelves.{Files}
 use Rattle.graphs_dm.specs.declared.graph_name.GraphName.TheVariants as graph
 use Rattle.cmd_dm.specs.Append.{append_script}
 use Rattle.cmd_dm.specs.Ask.{ask_script, translate_script}
+use Rattle.cmd_dm.specs.Bench.{bench_script}
 use Rattle.cmd_dm.specs.Check.{check_script}
 use Rattle.cmd_dm.specs.Consistent.{consistent_script}
 use Rattle.cmd_dm.specs.Clean.{clean_script}
@@ -18,7 +19,7 @@ use Rattle.cmd_dm.specs.Script.{Script, Outcome, usage, Comes}
 use Rattle.cmd_dm.specs.declared.status.File.{File}
 use Rattle.cmd_dm.specs.declared.status.File.TheVariants.{Schema, Query, Graph, Pattern}
 use Rattle.cmd_dm.specs.declared.command.Command.{Command}
-use Rattle.cmd_dm.specs.declared.command.Command.TheVariants.{Direct, Map, MapKeys, Check, Show, Consistent, Clean, Append, Invert, Rows, Translate, Ask, Sparql}
+use Rattle.cmd_dm.specs.declared.command.Command.TheVariants.{Direct, Map, MapKeys, Check, Show, Consistent, Clean, Append, Invert, Rows, Translate, Ask, Sparql, Bench}
 
 pub record Plan : Type 0 where
   pub target : Target
@@ -38,6 +39,12 @@ plan_of (Ask mode base folder document name) = record { target = to_output; scri
 plan_of (Sparql document name) = record { target = to_output; script = sparql_script document name }
 plan_of (Show name) = record { target = to_output; script = show_script name }
 plan_of (Consistent name) = record { target = to_output; script = consistent_script name }
+plan_of (Bench n) = record { target = to_output; script = bench_script n }
+
+-- the number of the benchmark is one that words give
+abbrev pub IsWithin : Command → Type 0
+IsWithin (Bench n) = n ≤ 50000
+IsWithin _ = Unit {0}
 
 -- the schema's file, where it is the file
 abbrev pub folder_file : List ℕ → File → Option (List ℕ)
@@ -80,6 +87,7 @@ file_of (Ask mode base folder document name) file = ask_file folder document nam
 file_of (Sparql document name) file = sparql_file document name file
 file_of (Show name) file = graph_file name file
 file_of (Consistent name) file = graph_file name file
+file_of (Bench n) file = None
 
 -- this is the name of the file, where the words alone name it
 abbrev pub NamesFile : Command → File → List ℕ → Type 0

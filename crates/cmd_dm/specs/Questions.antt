@@ -43,6 +43,7 @@ use Rattle.pattern_lines_dm.specs.Lines.{AreSolutionLines}
 use Rattle.sparql_text_dm.specs.Answer.{IsAnswer as IsParsedAs}
 use Rattle.sparql_text_dm.specs.declared.error.SparqlError.{SparqlError}
 use Rattle.sparql_text_dm.specs.declared.parsed.Parsed.{Parsed}
+use Rattle.bench_lines_dm.specs.Bench.{IsBenchText}
 use Rattle.cmd_dm.specs.Answered.{AreAnswersIn, IsPatternText}
 use Rattle.cmd_dm.specs.Folder.{AreFilesOf, AreFolderFiles}
 use Rattle.cmd_dm.specs.Reasons.{ddl_status, graph_status, inverse_status, query_status, sparql_status, table_status}
@@ -84,6 +85,8 @@ pub data Question : Type 0 where
   parsed_of : List ℕ → Question
   -- the lines of the solutions of a pattern with its header over the triples
   solutions_of : Parsed → List Statement → Question
+  -- the lines of what is counted of the database
+  bench_of : Data → Question
 
 -- what an answer to the question is: a value, or why the bytes are refused
 abbrev pub AnswerTo : Question → Type 0
@@ -104,6 +107,7 @@ AnswerTo (pattern_of mode base tables q) = List ℕ
 AnswerTo (answers_of mode base tables q triples) = List ℕ
 AnswerTo (parsed_of bytes) = Result Parsed Reason
 AnswerTo (solutions_of parsed triples) = List ℕ
+AnswerTo (bench_of D) = List ℕ
 
 abbrev pub IsSchemaAnswer : List ℕ → Result (List Table) Reason → Type 0
 IsSchemaAnswer bytes (Ok tables) = IsDdl bytes tables
@@ -155,3 +159,4 @@ Answers (pattern_of mode base tables q) text = IsSchema tables × IsPatternText 
 Answers (answers_of mode base tables q triples) text = IsSchema tables × AreAnswersIn mode base tables q triples text
 Answers (parsed_of bytes) answer = IsParsedAnswer bytes answer
 Answers (solutions_of parsed triples) text = AreSolutionLines triples parsed.pattern parsed.header text
+Answers (bench_of D) text = IsBenchText D text

@@ -1,7 +1,8 @@
 -- The words of each command.
-use Rattle.std.specs.Prelude.{ℕ, List, [], ◌∷◌, Option, Some, None, chars, codes, if◌then◌else◌}
+use Rattle.std.specs.Prelude.{ℕ, ◌&&◌, nat_le, List, [], ◌∷◌, Option, Some, None, chars, codes, if◌then◌else◌}
 use Rattle.std.specs.Option.{option_map}
-use Rattle.std.specs.Str.{bytes_eq}
+use Rattle.std.specs.Str.{all_ascii_digits, bytes_eq}
+use Rattle.std.specs.Str.Parse.{digits_value}
 use Rattle.value_dm.specs.declared.mode.NullMode.{NullMode}
 use Rattle.value_dm.specs.declared.mode.NullMode.TheVariants.{Plain, EmptyNull}
 use Rattle.algebra_dm.specs.declared.query.Mode.{Mode}
@@ -9,7 +10,7 @@ use Rattle.algebra_dm.specs.declared.query.Mode.TheVariants as modes
 use Rattle.graphs_dm.specs.declared.graph_name.GraphName.{GraphName}
 use Rattle.graphs_dm.specs.declared.graph_name.GraphName.TheVariants as graph
 use Rattle.cmd_dm.specs.declared.command.Command.{Command}
-use Rattle.cmd_dm.specs.declared.command.Command.TheVariants.{Direct, Map, MapKeys, Check, Show, Consistent, Clean, Append, Invert, Rows, Translate, Ask, Sparql}
+use Rattle.cmd_dm.specs.declared.command.Command.TheVariants.{Direct, Map, MapKeys, Check, Show, Consistent, Clean, Append, Invert, Rows, Translate, Ask, Sparql, Bench}
 
 -- [empty-null]
 abbrev pub nulls_of : List (List ℕ) → Option NullMode
@@ -82,6 +83,17 @@ abbrev pub sparql_of : List (List ℕ) → Option Command
 sparql_of (name ∷ pattern ∷ []) = Some (Sparql (chars name) (chars pattern))
 sparql_of words = None
 
+-- N: a decimal digit other than 0 and then digits, a number up to 50,000
+abbrev pub number_of : List ℕ → Option ℕ
+number_of [] = None
+number_of (digit ∷ digits) =
+    let number = digits_value 10 (digit ∷ digits) in
+    if nat_le 49 digit && (all_ascii_digits (digit ∷ digits) && nat_le number 50000) then Some number else None
+
+abbrev pub bench_of : List (List ℕ) → Option Command
+bench_of (word ∷ []) = option_map (λ n. Bench n) (number_of word)
+bench_of words = None
+
 -- the command that words stand for: its name, and then exactly its words
 abbrev pub command_of : List (List ℕ) → Option Command
 command_of [] = None
@@ -98,4 +110,5 @@ command_of (name ∷ words) =
     if bytes_eq name (codes "ask") then ask_of words else
     if bytes_eq name (codes "sparql") then sparql_of words else
     if bytes_eq name (codes "show") then show_of words else
-    if bytes_eq name (codes "consistent") then consistent_of words else None
+    if bytes_eq name (codes "consistent") then consistent_of words else
+    if bytes_eq name (codes "bench") then bench_of words else None

@@ -154,4 +154,10 @@ pub enum Command {
         /// The name of the file.
         graph: Text,
     },
+
+    /// Writes what is counted of the benchmark's database.
+    Bench {
+        /// How many persons it has, 1 to 50,000.
+        n: u32,
+    },
 }

@@ -3,6 +3,7 @@
 
 mod append;
 mod ask;
+mod bench;
 mod causes;
 mod check;
 mod clean;

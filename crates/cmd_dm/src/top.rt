@@ -3,13 +3,14 @@ ghost use Rattle.outside_dm.specs.Shelves.{Files};
 ghost use Rattle.cmd_dm.specs.Ending.{Ends, NoFault, result_status};
 ghost use Rattle.cmd_dm.specs.FaultLine.{Tells};
 ghost use Rattle.cmd_dm.specs.Headline.{Promises};
-ghost use Rattle.cmd_dm.specs.Plans.{IsOutcome, NamesFile, plan_of};
+ghost use Rattle.cmd_dm.specs.Plans.{IsOutcome, IsWithin, NamesFile, plan_of};
 ghost use Rattle.cmd_dm.specs.Script.{Outcome, status_of};
 ghost use Rattle.cmd_dm.specs.Words.{command_of};
 ghost use Rattle.cmd_dm.specs.declared.status.File.{File};
 
 use crate::append::run_append;
 use crate::ask::{run_ask, run_translate};
+use crate::bench::run_bench;
 use crate::check::run_check;
 use crate::clean::run_clean;
 use crate::command::Command;
@@ -33,6 +34,7 @@ fn run_command<S: Shelf, K: Sink>(
     shelf: &mut S,
     out: &mut K,
 ) -> Result<(), Status>
+    requires { IsWithin command.now }
     ensures { Ends (plan_of command.now).target (plan_of command.now).script
         (S.state shelf.old) (S.state shelf.new) (K.state out.old) (K.state out.new) (result_status result) }
 {
@@ -90,6 +92,7 @@ fn run_command<S: Shelf, K: Sink>(
         Command::Sparql { graph, pattern } => run_sparql(alloc, graph, pattern, shelf, out),
         Command::Show { graph } => run_show(alloc, graph, shelf, out),
         Command::Consistent { graph } => run_consistent(alloc, graph, shelf, out),
+        Command::Bench { n } => run_bench(alloc, *n, out),
     }
 }
 

@@ -1,5 +1,5 @@
-ghost use Rattle.std.specs.Prelude.{◌≡◌, ◌↔◌, Some, None, IfOk, IfErr, IsErrOf, chars, map, string_bytes};
-ghost use Rattle.cmd_dm.specs.Words.{append_of, ask_of, check_of, command_of, consistent_of, graph_command, graph_words, invert_of, mode_of, nulls_of, rows_of, show_of, sparql_of, clean_of, translate_of};
+ghost use Rattle.std.specs.Prelude.{◌≡◌, ◌<◌, ◌≤◌, ◌↔◌, Some, None, IfOk, IfErr, IsErrOf, chars, length, map, slice_index, string_bytes};
+ghost use Rattle.cmd_dm.specs.Words.{append_of, ask_of, check_of, command_of, consistent_of, graph_command, graph_words, invert_of, mode_of, nulls_of, rows_of, show_of, sparql_of, clean_of, translate_of, bench_of, number_of};
 ghost use Rattle.cmd_dm.specs.declared.command.Command.TheVariants.{Ask};
 ghost use Rattle.cmd_dm.specs.declared.words.WordError.TheVariants.{Memory, Usage};
 
@@ -10,6 +10,9 @@ use std::alloc::{AllocError, Global};
 use std::convert::From;
 use thiserror::Error;
 use value_dm::{NullMode, Text};
+
+/// The most persons of the benchmark's database.
+const MOST_PERSONS: u32 = 50_000;
 
 /// Why words gave no command.
 #[derive(Debug, Clone, Copy, PartialEq, Eq, Drop, Error)]
@@ -304,6 +307,52 @@ fn read_consistent(alloc: Global, words: &[String]) -> Result<Command, WordError
     }
 }
 
+/// The number of digits, where it is at most 50,000.
+fn parsed(word: &str) -> Option<u32>
+    requires some { 0 < length word.now }
+    requires digit { 49 ≤ slice_index word.now 0 }
+    ensures { result ≡ number_of word.now }
+{
+    match word.parse::<u32>() {
+        Ok(number) => {
+            if number <= MOST_PERSONS {
+                Some(number)
+            } else {
+                None
+            }
+        }
+        Err(_) => None,
+    }
+}
+
+/// The number from 1 to 50,000 that the word is in decimal digits, without a leading zero.
+fn read_number(word: &str) -> Option<u32>
+    ensures { result ≡ number_of word.now }
+{
+    let bytes = word.as_bytes();
+    if bytes.is_empty() {
+        return None;
+    }
+    if bytes[0] < b'1' {
+        return None;
+    }
+    parsed(word)
+}
+
+/// The words behind `bench`.
+fn read_bench(words: &[String]) -> Result<Command, WordError>
+    ensures ok { IfOk result (λ command. bench_of (map string_bytes words.now) ≡ Some command) }
+    ensures usage { IsErrOf result WordError.Usage ↔ (bench_of (map string_bytes words.now) ≡ None) }
+{
+    match words {
+        [word] => match read_number(word.as_str()) {
+            Some(n) => Ok(Command::Bench { n }),
+            None => Err(WordError::Usage),
+        },
+        _ => Err(WordError::Usage),
+    }
+}
+
 /// The command that the words stand for, which don't include the program's name. `Usage` exactly where they stand
 /// for none.
 pub fn read_words(alloc: Global, words: &[String]) -> Result<Command, WordError>
@@ -339,6 +388,8 @@ pub fn read_words(alloc: Global, words: &[String]) -> Result<Command, WordError>
                 read_show(alloc, rest)
             } else if name.as_str() == "consistent" {
                 read_consistent(alloc, rest)
+            } else if name.as_str() == "bench" {
+                read_bench(rest)
             } else {
                 Err(WordError::Usage)
             }

@@ -1,12 +1,13 @@
 use Rattle.cmd_dm.proofs.Promises.{words_unique, words_exact, words_come, names_failed, promised}
 use Rattle.cmd_dm.proofs.SomeOutcome.{words_some}
+use Rattle.cmd_dm.proofs.WithinWords.{within_words}
 use Rattle.cmd_dm.proofs.top.run.Goals as goal
 
 pub returns-clause-named : goal.returns-clause-named
 returns-clause-named g c = λ command file is failed. names_failed command file _ (c.decide-status.ensures.ends command is) failed
 
 pub returns-clause-some_outcome : goal.returns-clause-some_outcome
-returns-clause-some_outcome g c = λ files none. words_some files _ none
+returns-clause-some_outcome g c = λ files none. words_some files _ (within_words _) none
 
 pub returns-clause-one_outcome : goal.returns-clause-one_outcome
 returns-clause-one_outcome g c = λ files outcome other h k. words_unique files _ outcome other h k

@@ -1,5 +1,5 @@
 -- The tables that a database has without keys are within the limits.
-use Rattle.std.proofs.Common.{◌≡◌, refl, subst, inl, inr, arith, ℕ, zero, suc, ◌≤◌, List, [], ◌∷◌, length, map}
+use Rattle.std.proofs.Common.{◌≡◌, subst, inl, inr, arith, ℕ, zero, suc, ◌≤◌, List, [], ◌∷◌, length, map}
 use Rattle.std.specs.List.{AllZip}
 use Rattle.std.proofs.lemmas.List.{length-map}
 use Rattle.std.proofs.lemmas.List.Sorted.{length_permutation}
@@ -10,12 +10,7 @@ use Rattle.table_csv.specs.Cells.{AreRowsOf, Row, cells_at}
 use Rattle.table_csv.specs.Databases.{Data, IsDatabase, rows_at}
 use Rattle.table_csv.specs.Plain.{IsColumnAt, IsPlain, IsPlainAt, PlainTable}
 use Rattle.inverse_dm.specs.Limits.{IsWithinLimits}
-
-paired_count : {X Y : Type 0} (R : X → Y → Type 0) (xs : List X) (ys : List Y) → AllZip R xs ys → length xs ≡ length ys
-paired_count R [] [] h = refl
-paired_count R [] (y ∷ ys) h = absurd h
-paired_count R (x ∷ xs) [] h = absurd h
-paired_count R (x ∷ xs) (y ∷ ys) h = let rest = paired_count R xs ys h.1 in omega arith
+use Rattle.bench_lines_dm.proofs.PlainTables.{paired_count}
 
 -- each item of the one list has one of the other
 paired : {X Y : Type 0} (R : X → Y → Type 0) (xs : List X) (ys : List Y) → AllZip R xs ys → (y : Y) → IsIn y ys → (x : X) × R x y

@@ -1,0 +1,5 @@
+pub mod PlainTables
+pub mod PlainLimits
+pub mod FormedQueries
+pub mod Counts
+pub mod OneText

@@ -1,0 +1,5 @@
+//! Tests of the command `bench`.
+#![tactic(auto)]
+
+#[cfg(test)]
+mod tests;
