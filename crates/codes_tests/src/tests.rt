@@ -482,7 +482,7 @@ fn is_too_nested(alloc: Global) -> Option<bool> {
     let input = format!(in alloc;
         "dbrdf sparql g p\n+ g\n+ p\nSELECT DISTINCT ?a WHERE {open}{closed}\n! 1 dbrdf: refused 48 TooNested place 2074\n"
     ).ok()?;
-    ends(alloc, input.as_str(), Fault::Nowhere)
+    ends(alloc, input.as_str())
 }
 
 #[test]
