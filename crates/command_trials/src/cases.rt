@@ -1,47 +1,72 @@
-use crate::files::{add_files, files_of, has_files};
-use crate::runs::{Ended, Fault, fault_of, run_on, run_without_faults, shelf_of};
+use crate::files::{add_file, add_files, has_files};
+use crate::runs::{Ended, Fault, fault_of, output_of, run_on, run_without_faults, shelf_of};
+use crate::texts::bytes_of;
 use outside_dm::FileList;
 use std::alloc::Global;
+use value_dm::TryCopy;
+
+// How the runs of a case end.
+#[derive(Clone, Copy, Drop)]
+enum Told<'a> {
+    // The number of the status as a line, the output, and the line on standard error behind `! `, where there is one.
+    Whole(&'a str),
+    // The number of the status and the line, in one line.
+    Line(&'a str),
+}
 
 /// The parts of a case.
 #[derive(Clone, Copy, Drop)]
 pub struct Case<'a> {
-    /// The words (`words_of`).
-    pub line: &'a str,
-
-    /// The files (`files_of`).
-    pub files: &'a str,
-
-    /// The call that fails.
-    pub fault: Fault,
-
-    /// How the run ends: the number of its status as a line, the output, and the line on standard error behind `! `, where there is
-    /// one.
-    pub ending: &'a str,
-
-    /// The files that stand then (`has_files`).
-    pub stored: &'a str,
+    // The commands, each behind a line end.
+    commands: &'a str,
+    // The files behind the commands.
+    files: &'a str,
+    // The call that fails.
+    fault: Fault,
+    told: Told<'a>,
+    // The files that stand then.
+    stored: &'a str,
 }
 
-/// The parts of a case that is told as text: the words as a line; each file behind `+ `; where a call fails, its device and number as
-/// a line behind `~ ` (`fault_of`); how the run ends, behind `= `; and each file that stands then, behind `@ `. None where it has no
-/// words or no ending, or no such call.
+// The text up to the first of these marks, and from the mark on.
+fn parted<'a>(text: &'a str, mark: &str) -> (&'a str, &'a str) {
+    match text.find(mark) {
+        Some(place) => text.split_at(place),
+        None => (text, ""),
+    }
+}
+
+// How the runs end, and the files that stand then.
+fn told_of(text: &str) -> Option<(Told, &str)> {
+    let (ending, stored) = parted(text, "\n@ ");
+    match ending.strip_prefix("\n= ") {
+        Some(whole) => Some((Told::Whole(whole), stored)),
+        None => Some((Told::Line(ending.strip_prefix("\n! ")?), stored)),
+    }
+}
+
+/// The parts of a case that is told as text, behind a line end: the commands; the files (`add_files`); where a call fails, its device and
+/// number behind `~ ` (`fault_of`); how the runs end, behind `= `, or behind `! ` where the output isn't told; and the files that stand
+/// then (`has_files`). None where it has no ending, or no such call.
 pub fn case_of(text: &str) -> Option<Case> {
-    let (given, wanted) = text.split_once("= ")?;
-    let (line, given) = given.split_once('\n')?;
-    let (files, call) = given.split_once("~ ").unwrap_or((given, ""));
-    let (ending, stored) = wanted.split_once("@ ").unwrap_or((wanted, ""));
+    let (given, wanted) = match text.contains("\n= ") {
+        true => parted(text, "\n= "),
+        false => parted(text, "\n! "),
+    };
+    let (given, call) = parted(given, "\n~ ");
+    let (commands, files) = parted(given, "\n+ ");
+    let (told, stored) = told_of(wanted)?;
     Some(Case {
-        line,
+        commands,
         files,
-        fault: fault_of(call)?,
-        ending,
+        fault: fault_of(call.strip_prefix("\n~ ").unwrap_or(""))?,
+        told,
         stored,
     })
 }
 
-// How a run ended, as a case tells it.
-fn ending_of(alloc: Global, ended: &Ended) -> Option<Vec<u8>> {
+// How a run ended, as a case tells it with its output.
+fn whole_ending(alloc: Global, ended: &Ended) -> Option<Vec<u8>> {
     let number = format!(in alloc; "{}\n", ended.number).ok()?;
     let mut whole = Vec::from_slice(alloc, number.as_bytes()).ok()?;
     whole.extend_from_slice(ended.output.as_slice()).ok()?;
@@ -52,74 +77,99 @@ fn ending_of(alloc: Global, ended: &Ended) -> Option<Vec<u8>> {
     Some(whole)
 }
 
-fn is_ending(alloc: Global, ended: &Ended, ending: &str) -> bool {
-    match ending_of(alloc, ended) {
-        Some(whole) => whole.as_slice() == ending.as_bytes(),
-        None => false,
+// How a run ended, as a case tells it without its output.
+fn line_ending(alloc: Global, ended: &Ended) -> Option<Vec<u8>> {
+    let number = format!(in alloc; "{}", ended.number).ok()?;
+    let mut ending = Vec::from_slice(alloc, number.as_bytes()).ok()?;
+    if ended.line.len() > 0 {
+        ending.extend_from_slice(b" ").ok()?;
+        ending.extend_from_slice(ended.line.as_slice()).ok()?;
+    } else {
+        ending.push(b'\n').ok()?;
+    }
+    Some(ending)
+}
+
+// How a run ended, where that isn't as told; empty where it is.
+fn other_ending(alloc: Global, ended: &Ended, told: Told) -> Option<Vec<u8>> {
+    let (ending, text) = match told {
+        Told::Whole(text) => (whole_ending(alloc, ended)?, text),
+        Told::Line(text) => (line_ending(alloc, ended)?, text),
+    };
+    let mut wanted = bytes_of(alloc, text)?;
+    wanted.push(b'\n').ok()?;
+    if ending == wanted {
+        Some(Vec::new(alloc))
+    } else {
+        Some(ending)
     }
 }
 
-/// Whether a run of the words over these files, of which this call fails, ends so, and these files stand then.
-pub fn ends_so(
+// How a run of the words over these files ends, where that isn't as the case tells; empty where it is.
+fn run_otherwise(alloc: Global, line: &str, files: &FileList, case: &Case) -> Option<Vec<u8>> {
+    let mut shelf = shelf_of(alloc, files.copy(alloc).ok()?, case.fault)?;
+    let ended = run_on(alloc, line, &mut shelf, case.fault)?;
+    let ending = other_ending(alloc, &ended, case.told)?;
+    if ending.len() == 0 && !has_files(alloc, &shelf, case.stored)? {
+        return Vec::from_slice(alloc, b"other files\n").ok();
+    }
+    Some(ending)
+}
+
+// The same over devices that never fail, where none is to.
+fn ends_otherwise_without_faults(
     alloc: Global,
     line: &str,
-    files: FileList,
-    fault: Fault,
-    ending: &str,
-    stored: &str,
-) -> bool {
-    let Some(mut shelf) = shelf_of(alloc, files, fault) else {
-        return false;
-    };
-    match run_on(alloc, line, &mut shelf, fault) {
-        Some(ended) => is_ending(alloc, &ended, ending) && has_files(&shelf, stored),
-        None => false,
+    files: &FileList,
+    case: &Case,
+) -> Option<Vec<u8>> {
+    match case.fault {
+        Fault::Nowhere => {
+            let ended = run_without_faults(alloc, line, files.copy(alloc).ok()?)?;
+            other_ending(alloc, &ended, case.told)
+        }
+        _ => Some(Vec::new(alloc)),
     }
 }
 
-/// Whether a case (`case_of`) over these files and its own ends as it tells.
-pub fn ends_over(alloc: Global, files: FileList, text: &str) -> bool {
-    let Some(case) = case_of(text) else {
-        return false;
-    };
-    let mut all = files;
-    match add_files(alloc, &mut all, case.files) {
-        Some(()) => ends_so(alloc, case.line, all, case.fault, case.ending, case.stored),
-        None => false,
+// The same over devices of which calls may fail, and then over devices that never do.
+fn line_otherwise(alloc: Global, line: &str, files: &FileList, case: &Case) -> Option<Vec<u8>> {
+    let ending = run_otherwise(alloc, line, files, case)?;
+    if ending.len() > 0 {
+        return Some(ending);
+    }
+    ends_otherwise_without_faults(alloc, line, files, case)
+}
+
+// How a command ends, where that isn't as the case tells; empty where it is. The output of a command with ` > ` is kept as the file that
+// is named there, and the command is to end well.
+fn command_otherwise(
+    alloc: Global,
+    command: &str,
+    files: &mut FileList,
+    case: &Case,
+) -> Option<Vec<u8>> {
+    match command.split_once(" > ") {
+        Some((line, name)) => {
+            let output = output_of(alloc, line, files.copy(alloc).ok()?)?;
+            add_file(alloc, files, name, output)?;
+            Some(Vec::new(alloc))
+        }
+        None => line_otherwise(alloc, command, files, case),
     }
 }
 
-/// Whether a case (`case_of`) over the files that are told as text (`files_of`) and its own ends as it tells.
-pub fn ends_as_told(alloc: Global, files: &str, text: &str) -> bool {
-    match files_of(alloc, files) {
-        Some(files) => ends_over(alloc, files, text),
-        None => false,
-    }
-}
-
-/// Whether a case that stores no files ends as it tells over devices that never fail.
-pub fn ends_without_faults(alloc: Global, files: &str, text: &str) -> bool {
-    let Some(case) = case_of(text) else {
-        return false;
-    };
-    let Some(mut all) = files_of(alloc, files) else {
-        return false;
-    };
-    if add_files(alloc, &mut all, case.files).is_none() {
-        return false;
-    }
-    match run_without_faults(alloc, case.line, all) {
-        Some(ended) => is_ending(alloc, &ended, case.ending),
-        None => false,
-    }
-}
-
-/// The first of the cases that ends otherwise than it tells over these files and its own, or nothing.
-pub fn first_wrong<'a>(alloc: Global, files: &str, cases: &[&'a str]) -> &'a str {
-    for text in cases {
-        if !ends_as_told(alloc, files, text) {
-            return text;
+/// How the first command of the case, over these files and its own, ends, where that isn't as it tells; empty where each ends so. The
+/// commands stand each behind a line end and `dbrdf `; the output of one with ` > ` is kept as the file that is named there for those behind
+/// it, and the others end as the case tells. None where a kept one doesn't end well, where two files have one name, or for want of memory.
+pub fn ends_otherwise(alloc: Global, standing: &FileList, case: &Case) -> Option<Vec<u8>> {
+    let mut files = standing.copy(alloc).ok()?;
+    add_files(alloc, &mut files, case.files)?;
+    for command in case.commands.split("\ndbrdf ").skip(1) {
+        let ending = command_otherwise(alloc, command, &mut files, case)?;
+        if ending.len() > 0 {
+            return Some(ending);
         }
     }
-    ""
+    Some(Vec::new(alloc))
 }

@@ -1,38 +1,46 @@
+use crate::texts::bytes_of;
 use outside_dm::{FileList, MemoryShelf, NamedFile};
 use std::alloc::Global;
 use value_dm::{Bytes, Text};
 
 /// Adds a file. None where one has this name already, or for want of memory.
-pub fn add_file(alloc: Global, list: &mut FileList, name: &str, bytes: &[u8]) -> Option<()> {
+pub fn add_file(alloc: Global, list: &mut FileList, name: &str, bytes: Vec<u8>) -> Option<()> {
     if !list.lacks(name) {
         return None;
     }
     let pushed = list.push(NamedFile {
         name: Text::from_str(alloc, name).ok()?,
-        bytes: Bytes::from_vec(Vec::from_slice(alloc, bytes).ok()?),
+        bytes: Bytes::from_vec(bytes),
     });
     pushed.ok()
 }
 
-// The bytes of a text, each `<FF>` as the byte FF.
-fn bytes_of(alloc: Global, text: &str) -> Option<Vec<u8>> {
-    let mut bytes = Vec::new(alloc);
-    for (place, part) in text.split("<FF>").enumerate() {
-        if place > 0 {
-            bytes.push(255).ok()?;
+// The bytes of a file whose lines these are (`bytes_of`). The last has no line end where `<>` stands there.
+fn content_of(alloc: Global, lines: &str) -> Option<Vec<u8>> {
+    match lines.strip_suffix("<>") {
+        Some(lines) => bytes_of(alloc, lines),
+        None => {
+            let mut bytes = bytes_of(alloc, lines)?;
+            bytes.push(b'\n').ok()?;
+            Some(bytes)
         }
-        bytes.extend_from_slice(part.as_bytes()).ok()?;
     }
-    Some(bytes)
 }
 
-/// Adds the files that are told as text, each its name behind `+ ` and then its lines, in which `<FF>` stands for the one byte FF.
-/// None where two have one name, or for want of memory.
+// The name and the bytes of a file that is told as text.
+fn file_of(alloc: Global, file: &str) -> Option<(&str, Vec<u8>)> {
+    match file.split_once('\n') {
+        Some((name, lines)) => Some((name, content_of(alloc, lines)?)),
+        None => Some((file, Vec::new(alloc))),
+    }
+}
+
+/// Adds the files that are told as text, each its name behind a line end and `+ `, and then its lines (`bytes_of`), of which `<>` at the
+/// end takes the last line's end away; what stands before the first is no file. None where two have one name, or for want of memory.
 pub fn add_files(alloc: Global, list: &mut FileList, files: &str) -> Option<()> {
-    for file in files.split("+ ") {
-        if let Some((name, content)) = file.split_once('\n') {
-            add_file(alloc, list, name, bytes_of(alloc, content)?.as_slice())?;
-        }
+    for file in files.split("\n+ ").skip(1) {
+        let (name, bytes) = file_of(alloc, file)?;
+        add_file(alloc, list, name, bytes)?;
     }
     Some(())
 }
@@ -44,31 +52,22 @@ pub fn files_of(alloc: Global, files: &str) -> Option<FileList> {
     Some(list)
 }
 
-/// The files that are told as text, and one more. None where two have one name, or for want of memory.
-pub fn files_with(alloc: Global, files: &str, name: &str, bytes: &[u8]) -> Option<FileList> {
-    let mut list = files_of(alloc, files)?;
-    add_file(alloc, &mut list, name, bytes)?;
-    Some(list)
-}
-
 // Whether the shelf has the file, or has none where that is told.
-fn has_file(shelf: &MemoryShelf, file: &str) -> bool {
-    match file.split_once('\n') {
-        Some((name, content)) => match shelf.content(name) {
-            Some(bytes) => bytes == content.as_bytes(),
-            None => content == "-\n",
-        },
-        None => false,
-    }
+fn has_file(alloc: Global, shelf: &MemoryShelf, file: &str) -> Option<bool> {
+    let (name, content) = file_of(alloc, file)?;
+    Some(match shelf.content(name) {
+        Some(bytes) => bytes == content.as_slice(),
+        None => content.as_slice() == b"-\n".as_slice(),
+    })
 }
 
-/// Whether the shelf has the files that are told as text, each its name behind `@ ` and then its lines, where `-` alone says that
-/// no file has the name.
-pub fn has_files(shelf: &MemoryShelf, files: &str) -> bool {
-    for file in files.split("@ ") {
-        if file.len() > 0 && !has_file(shelf, file) {
-            return false;
+/// Whether the shelf has the files that are told as text, each its name behind a line end and `@ `, and then its lines as `add_files` takes
+/// them, where `-` alone says that no file has the name. None for want of memory.
+pub fn has_files(alloc: Global, shelf: &MemoryShelf, files: &str) -> Option<bool> {
+    for file in files.split("\n@ ").skip(1) {
+        if !has_file(alloc, shelf, file)? {
+            return Some(false);
         }
     }
-    true
+    Some(true)
 }
