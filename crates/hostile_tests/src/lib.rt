@@ -1,8 +1,6 @@
-//! Tests of hostile use, through the top call: devices that fail at each call, damaged files, words that are no command, and a
-//! graph that is cut off at each byte.
+//! Tests of hostile use, through the top call: an output that fails at each put, a graph that is cut off at each byte, and files of one byte
+//! more than a load takes; and of the two calls beside the top one.
 #![tactic(auto)]
 
-#[cfg(test)]
-mod cases;
 #[cfg(test)]
 mod tests;

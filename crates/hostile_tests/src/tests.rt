@@ -1,31 +1,69 @@
-use crate::cases::{DAMAGED, DIRECT, FAULTS, FILES, MAP, NO_COMMANDS, NOTHING};
+use cmd_dm::{Command, Status, fault_text, read_words};
 use command_trials::{
-    Ended, Fault, ends_over, files_with, first_wrong, has_files, run_on, run_over, shelf_of,
-    whole_iris,
+    Ended, Fault, add_file, bytes_of, files_of, has_files, run_on, run_over, shelf_of, words_of,
 };
 use outside_dm::FileList;
 use std::alloc::Global;
+use value_dm::NullMode;
 
-// The files with the graph.
-fn all_files(alloc: Global) -> Option<FileList> {
-    let graph = whole_iris(alloc, MAP)?;
-    files_with(alloc, FILES, "g", graph.as_bytes())
-}
+// A folder, and a folder with a schema alone. In the graphs `<~` stands for `<http://foo.example/DB/`, and prefixes for their namespaces.
+const FOLDER: &str = "
++ d/schema.sql
+CREATE TABLE Addresses (ID INT PRIMARY KEY, city CHAR(10), state CHAR(2)); CREATE TABLE People (ID INT PRIMARY KEY, fname CHAR(10), addr INT, FOREIGN KEY (addr) REFERENCES Addresses(ID));
++ d/Addresses.csv
+ID,city,state
+18,Cambridge,MA
++ d/People.csv
+ID,fname,addr
+7,Bob,18
+8,Sue,\\N
++ e/schema.sql
+CREATE TABLE T (a INT);";
 
-fn fails_as_told(alloc: Global, text: &str) -> bool {
-    match all_files(alloc) {
-        Some(files) => ends_over(alloc, files, text),
-        None => false,
-    }
-}
+// The ontology of the folder's map graph.
+const ONTOLOGY: &str = "<~Addresses> <rdf:type> <owl:Class> .
+<~Addresses#ID> <rdf:type> <owl:DatatypeProperty> .
+<~Addresses#ID> <rdfs:domain> <~Addresses> .
+<~Addresses#ID> <rdfs:range> <xsd:integer> .
+<~Addresses#city> <rdf:type> <owl:DatatypeProperty> .
+<~Addresses#city> <rdfs:domain> <~Addresses> .
+<~Addresses#city> <rdfs:range> <xsd:string> .
+<~Addresses#state> <rdf:type> <owl:DatatypeProperty> .
+<~Addresses#state> <rdfs:domain> <~Addresses> .
+<~Addresses#state> <rdfs:range> <xsd:string> .
+<~People> <rdf:type> <owl:Class> .
+<~People#ID> <rdf:type> <owl:DatatypeProperty> .
+<~People#ID> <rdfs:domain> <~People> .
+<~People#ID> <rdfs:range> <xsd:integer> .
+<~People#fname> <rdf:type> <owl:DatatypeProperty> .
+<~People#fname> <rdfs:domain> <~People> .
+<~People#fname> <rdfs:range> <xsd:string> .
+<~People#addr> <rdf:type> <owl:DatatypeProperty> .
+<~People#addr> <rdfs:domain> <~People> .
+<~People#addr> <rdfs:range> <xsd:integer> .
+<~People#ref-addr> <rdf:type> <owl:ObjectProperty> .
+<~People#ref-addr> <rdfs:domain> <~People> .
+<~People#ref-addr> <rdfs:range> <~Addresses> .
+";
+
+// Its direct graph.
+const DIRECT: &str = "<~Addresses/ID=18> <rdf:type> <~Addresses> .
+<~Addresses/ID=18> <~Addresses#ID> \"18\"^^<xsd:integer> .
+<~Addresses/ID=18> <~Addresses#city> \"Cambridge\" .
+<~Addresses/ID=18> <~Addresses#state> \"MA\" .
+<~People/ID=7> <rdf:type> <~People> .
+<~People/ID=7> <~People#ID> \"7\"^^<xsd:integer> .
+<~People/ID=7> <~People#fname> \"Bob\" .
+<~People/ID=7> <~People#addr> \"18\"^^<xsd:integer> .
+<~People/ID=7> <~People#ref-addr> <~Addresses/ID=18> .
+<~People/ID=8> <rdf:type> <~People> .
+<~People/ID=8> <~People#ID> \"8\"^^<xsd:integer> .
+<~People/ID=8> <~People#fname> \"Sue\" .
+";
 
 fn direct(alloc: Global, put: u64) -> Option<Ended> {
-    run_over(
-        alloc,
-        "direct http://foo.example/DB/ d",
-        all_files(alloc)?,
-        Fault::Put(put),
-    )
+    let line = "direct http://foo.example/DB/ d";
+    run_over(alloc, line, files_of(alloc, FOLDER)?, Fault::Put(put))
 }
 
 // Whether a run of which a put failed ended with a prefix of the text.
@@ -51,34 +89,25 @@ fn fails_at_each_put(alloc: Global, whole: &[u8]) -> bool {
     false
 }
 
-fn is_direct_cut_off(alloc: Global) -> bool {
-    match whole_iris(alloc, DIRECT) {
-        Some(whole) => fails_at_each_put(alloc, whole.as_bytes()),
-        None => false,
-    }
+fn is_direct_cut_off(alloc: Global) -> Option<bool> {
+    let whole = bytes_of(alloc, DIRECT)?;
+    Some(fails_at_each_put(alloc, whole.as_slice()))
 }
 
 #[test]
-fn devices_that_fail(rt: HostRuntime) {
-    for text in FAULTS {
-        let found = fails_as_told(rt.alloc(), text);
-        assert!(rt; found, "{text}");
-    }
-    let found = is_direct_cut_off(rt.alloc());
+fn an_output_that_fails(rt: HostRuntime) {
+    let found = is_direct_cut_off(rt.alloc()).unwrap_or(false);
     assert!(rt; found);
 }
 
-#[test]
-fn damaged_files(rt: HostRuntime) {
-    let wrong = first_wrong(rt.alloc(), "", &DAMAGED);
-    assert!(rt; wrong.len() == 0, "{wrong}");
-}
-
-#[test]
-fn words_that_are_no_command(rt: HostRuntime) {
-    let wrong = first_wrong(rt.alloc(), FILES, &NO_COMMANDS);
-    assert!(rt; wrong.len() == 0, "{wrong}");
-}
+// None of the files that `invert` stores of the map graph.
+const NOTHING: &str = "
+@ o/schema.sql
+-
+@ o/Addresses.csv
+-
+@ o/People.csv
+-";
 
 // Whether the line names one of the causes that a graph that is cut off may be refused for.
 fn is_cause_of_a_cut(line: &[u8]) -> bool {
@@ -87,38 +116,98 @@ fn is_cause_of_a_cut(line: &[u8]) -> bool {
         || line.starts_with(b"dbrdf: refused 44 NoTables")
 }
 
-// Whether `invert` stores tables of these first bytes of a graph, or refuses them and stores nothing.
-fn is_cut_judged(alloc: Global, front: &[u8]) -> Option<bool> {
-    let mut shelf = shelf_of(alloc, files_with(alloc, "", "g", front)?, Fault::Nowhere)?;
-    let ended = run_on(
-        alloc,
-        "invert http://foo.example/DB/ g o",
-        &mut shelf,
-        Fault::Nowhere,
-    )?;
-    Some(match ended.number {
-        0 => true,
-        1 => is_cause_of_a_cut(ended.line.as_slice()) && has_files(&shelf, NOTHING),
-        _ => false,
-    })
+// The graph file `g` of these bytes.
+fn graph_file(alloc: Global, front: &[u8]) -> Option<FileList> {
+    let mut files = FileList::new(alloc);
+    add_file(alloc, &mut files, "g", Vec::from_slice(alloc, front).ok()?)?;
+    Some(files)
 }
 
-// The first place at which the map graph, cut off there, is judged otherwise, or None where there is no such place.
-fn first_misjudged(alloc: Global) -> Option<usize> {
-    let Some(graph) = whole_iris(alloc, MAP) else {
-        return Some(0);
-    };
-    let bytes = graph.as_bytes();
-    for place in 0..bytes.len() {
-        if !is_cut_judged(alloc, &bytes[..place]).unwrap_or(false) {
-            return Some(place);
+// Whether `invert` stores tables of these first bytes of a graph, or refuses them and stores nothing.
+fn is_cut_judged(alloc: Global, front: &[u8]) -> Option<bool> {
+    let mut shelf = shelf_of(alloc, graph_file(alloc, front)?, Fault::Nowhere)?;
+    let line = "invert http://foo.example/DB/ g o";
+    let ended = run_on(alloc, line, &mut shelf, Fault::Nowhere)?;
+    match ended.number {
+        0 => Some(true),
+        1 if is_cause_of_a_cut(ended.line.as_slice()) => has_files(alloc, &shelf, NOTHING),
+        _ => Some(false),
+    }
+}
+
+// The first place at which the graph, cut off there, is judged otherwise, or its length where there is no such place.
+fn first_misjudged(alloc: Global, graph: &[u8]) -> usize {
+    for place in 0..graph.len() {
+        if !is_cut_judged(alloc, &graph[..place]).unwrap_or(false) {
+            return place;
         }
     }
-    None
+    graph.len()
+}
+
+fn are_cuts_judged(alloc: Global) -> Option<bool> {
+    let mut graph = bytes_of(alloc, ONTOLOGY)?;
+    let rows = bytes_of(alloc, DIRECT)?;
+    graph.extend_from_slice(rows.as_slice()).ok()?;
+    Some(first_misjudged(alloc, graph.as_slice()) == graph.len())
 }
 
 #[test]
 fn graphs_that_are_cut_off(rt: HostRuntime) {
-    let wrong = first_misjudged(rt.alloc());
-    assert!(rt; wrong.is_none(), "{}", wrong.unwrap_or(0));
+    let found = are_cuts_judged(rt.alloc()).unwrap_or(false);
+    assert!(rt; found);
+}
+
+// How `check` of the folder ends where its file of this name has one byte more than a load takes.
+fn too_long(alloc: Global, folder: &str, name: &str) -> Option<Ended> {
+    let long = vec![in alloc; b' '; 268_435_457].ok()?;
+    let mut files = files_of(alloc, folder)?;
+    add_file(alloc, &mut files, name, long)?;
+    run_over(alloc, "check e", files, Fault::Nowhere)
+}
+
+fn is_too_long(alloc: Global, folder: &str, name: &str, line: &str) -> bool {
+    match too_long(alloc, folder, name) {
+        Some(ended) => (ended.number == 7) & (ended.line.as_slice() == line.as_bytes()),
+        None => false,
+    }
+}
+
+#[test]
+fn files_that_are_too_long(rt: HostRuntime) {
+    let schema = "dbrdf: too long schema\n";
+    let found = is_too_long(rt.alloc(), "", "e/schema.sql", schema);
+    assert!(rt; found);
+    let table = "dbrdf: too long table 1\n";
+    let found = is_too_long(rt.alloc(), FOLDER, "e/T.csv", table);
+    assert!(rt; found);
+}
+
+fn is_direct(command: &Command) -> bool {
+    match command {
+        Command::Direct {
+            base,
+            folder,
+            nulls,
+        } => {
+            (base.as_str() == "http://foo.example/DB/")
+                & (folder.as_str() == "d")
+                & (*nulls == NullMode::Plain)
+        }
+        _ => false,
+    }
+}
+
+// Whether the words of a command are read, and the line of a fault is told.
+fn are_read_and_told(alloc: Global) -> Option<bool> {
+    let words = words_of(alloc, "direct http://foo.example/DB/ d")?;
+    let command = read_words(alloc, &words).ok()?;
+    let line = fault_text(alloc, &Status::WriteFault).ok()?;
+    Some(is_direct(&command) & (line.as_str() == "dbrdf: write fault\n"))
+}
+
+#[test]
+fn words_and_lines(rt: HostRuntime) {
+    let found = are_read_and_told(rt.alloc()).unwrap_or(false);
+    assert!(rt; found);
 }

@@ -1,5 +1,0 @@
-//! Tests of the command `bench`.
-#![tactic(auto)]
-
-#[cfg(test)]
-mod tests;

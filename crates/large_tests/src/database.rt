@@ -1,0 +1,117 @@
+use bench_dm::make_database;
+use command_trials::{
+    Fault, add_file, files_of, output_of, run_on, run_without_faults, shelf_of,
+};
+use outside_dm::FileList;
+use schema_dm::ShapeTable;
+use std::alloc::Global;
+use table_csv::{Database, table_text};
+use value_dm::TryCopy;
+
+const LARGE: u32 = 20_000;
+
+// The statements of the generator's database, and the two queries of `bench`.
+const FILES: &str = "
++ d/schema.sql
+CREATE TABLE Dept (id INTEGER PRIMARY KEY, name TEXT);
+CREATE TABLE Person (id INTEGER PRIMARY KEY, name TEXT, dept INTEGER REFERENCES Dept(id), boss INTEGER REFERENCES Person(id));
+CREATE TABLE Member (person INTEGER REFERENCES Person(id), dept INTEGER REFERENCES Dept(id), PRIMARY KEY (person, dept));
+CREATE TABLE Note (text TEXT, size INTEGER);
++ notes
+(diff (project (table Note) text size) (ne (table Note) size integer \"1\"))
++ members
+(join (rename (table Person) id person) (table Member))";
+
+const TABLES: [&str; 4] = ["d/Dept.csv", "d/Person.csv", "d/Member.csv", "d/Note.csv"];
+
+// The canonical text of a table.
+fn text_at(alloc: Global, database: &Database, place: usize) -> Option<Vec<u8>> {
+    let tables = database.schema().tables();
+    if place >= tables.len() {
+        return None;
+    }
+    let table = &tables[place];
+    let shape = ShapeTable {
+        name: table.name.copy(alloc).ok()?,
+        columns: table.columns.copy(alloc).ok()?,
+    };
+    table_text(alloc, &shape, database.rows_of(place)).ok()
+}
+
+// The folder of the generator's database, with the queries.
+fn folder(alloc: Global) -> Option<FileList> {
+    let database = make_database(alloc, LARGE).ok()?;
+    let mut files = files_of(alloc, FILES)?;
+    for (place, name) in TABLES.iter().enumerate() {
+        add_file(alloc, &mut files, name, text_at(alloc, &database, place)?)?;
+    }
+    Some(files)
+}
+
+fn lines(bytes: &[u8]) -> usize {
+    bytes.iter().filter(|byte| **byte == b'\n').count()
+}
+
+// The folder with its map graph, which has as many lines as the graph has triples.
+fn folder_with_graph(alloc: Global) -> Option<FileList> {
+    let mut files = folder(alloc)?;
+    let line = "map http://example.com/ d";
+    let graph = output_of(alloc, line, files.copy(alloc).ok()?)?;
+    if lines(graph.as_slice()) != 208_514 {
+        return None;
+    }
+    add_file(alloc, &mut files, "g", graph)?;
+    Some(files)
+}
+
+// Whether `invert` of the graph ends well, stores the departments' file as it was, and each membership.
+fn is_inverted(alloc: Global, files: &FileList) -> Option<bool> {
+    let mut shelf = shelf_of(alloc, files.copy(alloc).ok()?, Fault::Nowhere)?;
+    let line = "invert http://example.com/ g o";
+    let ended = run_on(alloc, line, &mut shelf, Fault::Nowhere)?;
+    let departments = shelf.content("o/Dept.csv")? == shelf.content("d/Dept.csv")?;
+    let members = lines(shelf.content("o/Member.csv")?);
+    Some((ended.number == 0) & departments & (members == 20_001))
+}
+
+// Whether `rows` and `ask` write the same for a query, in so many lines.
+fn is_asked(alloc: Global, files: &FileList, query: &str, wanted: usize) -> Option<bool> {
+    let line = format!(in alloc; "rows d {query}").ok()?;
+    let rows = output_of(alloc, line.as_str(), files.copy(alloc).ok()?)?;
+    let line = format!(in alloc; "ask map http://example.com/ d g {query}").ok()?;
+    let asked = output_of(alloc, line.as_str(), files.copy(alloc).ok()?)?;
+    Some((rows == asked) & (lines(rows.as_slice()) == wanted))
+}
+
+fn comes_back(alloc: Global) -> Option<bool> {
+    let files = folder_with_graph(alloc)?;
+    let inverted = is_inverted(alloc, &files)?;
+    let notes = is_asked(alloc, &files, "notes", 21)?;
+    let members = is_asked(alloc, &files, "members", 9)?;
+    Some(inverted & notes & members)
+}
+
+#[test]
+fn a_large_database(rt: HostRuntime) {
+    let found = comes_back(rt.alloc()).unwrap_or(false);
+    assert!(rt; found);
+}
+
+// What `bench 20000` writes.
+const BENCH: &str = "rows 62001
+triples 208514
+inverted equal
+answer 20 equal
+joined 8 equal
+";
+
+fn is_benched(alloc: Global) -> Option<bool> {
+    let ended = run_without_faults(alloc, "bench 20000", FileList::new(alloc))?;
+    Some((ended.number == 0) & (ended.output.as_slice() == BENCH.as_bytes()))
+}
+
+#[test]
+fn bench(rt: HostRuntime) {
+    let found = is_benched(rt.alloc()).unwrap_or(false);
+    assert!(rt; found);
+}
