@@ -1,45 +1,36 @@
 use std::alloc::Global;
 
-// What stands for a longer text behind `<`, and the text.
-const PREFIXES: [(&str, &str); 5] = [
+// What stands for another text behind `<`, and the text.
+const MARKS: [(&str, &str); 11] = [
     ("~", "<http://foo.example/DB/"),
     ("rdf:", "<http://www.w3.org/1999/02/22-rdf-syntax-ns#"),
     ("rdfs:", "<http://www.w3.org/2000/01/rdf-schema#"),
     ("owl:", "<http://www.w3.org/2002/07/owl#"),
     ("xsd:", "<http://www.w3.org/2001/XMLSchema#"),
+    ("00>", "\0"),
+    ("09>", "\t"),
+    ("0A>", "\n"),
+    ("0B>", "\u{b}"),
+    ("0D>", "\r"),
+    ("FEFF>", "\u{feff}"),
 ];
 
-// What stands for one byte behind `<`, and the byte.
-const BYTES: [(&str, u8); 5] = [
-    ("00>", 0),
-    ("09>", 9),
-    ("0A>", 10),
-    ("0D>", 13),
-    ("FF>", 255),
-];
-
-// The text behind a prefix with the prefix as a whole IRI's, and else behind `<`.
-fn push_iri(whole: &mut Vec<u8>, part: &str) -> Option<()> {
-    for (mark, namespace) in PREFIXES {
-        if let Some(rest) = part.strip_prefix(mark) {
-            whole.extend_from_slice(namespace.as_bytes()).ok()?;
-            return whole.extend_from_slice(rest.as_bytes()).ok();
-        }
-    }
-    whole.push(b'<').ok()?;
-    whole.extend_from_slice(part.as_bytes()).ok()
+fn push_both(whole: &mut Vec<u8>, first: &[u8], second: &str) -> Option<()> {
+    whole.extend_from_slice(first).ok()?;
+    whole.extend_from_slice(second.as_bytes()).ok()
 }
 
-// Whether the text begins with what stands for a byte, which is pushed with the rest.
-fn pushes_byte(whole: &mut Vec<u8>, part: &str) -> Option<bool> {
-    for (mark, byte) in BYTES {
+// What stands behind `<`, with its mark as what the mark stands for, and else as it is.
+fn push_marked(whole: &mut Vec<u8>, part: &str) -> Option<()> {
+    for (mark, text) in MARKS {
         if let Some(rest) = part.strip_prefix(mark) {
-            whole.push(byte).ok()?;
-            whole.extend_from_slice(rest.as_bytes()).ok()?;
-            return Some(true);
+            return push_both(whole, text.as_bytes(), rest);
         }
     }
-    Some(false)
+    match part.strip_prefix("FF>") {
+        Some(rest) => push_both(whole, &[255], rest),
+        None => push_both(whole, b"<", part),
+    }
 }
 
 fn push_with_digits(whole: &mut Vec<u8>, text: &str, digits: &[u8]) -> Option<()> {
@@ -75,16 +66,16 @@ fn pushes_repeated(alloc: Global, whole: &mut Vec<u8>, part: &str) -> Option<boo
 }
 
 fn push_part(alloc: Global, whole: &mut Vec<u8>, part: &str) -> Option<()> {
-    if pushes_byte(whole, part)? || pushes_repeated(alloc, whole, part)? {
+    if pushes_repeated(alloc, whole, part)? {
         Some(())
     } else {
-        push_iri(whole, part)
+        push_marked(whole, part)
     }
 }
 
 /// The bytes that a text of a case stands for. In it `<~` stands for `<http://foo.example/DB/`, `<rdf:`, `<rdfs:`, `<owl:` and `<xsd:`
-/// for their namespaces behind `<`, `<00>`, `<09>`, `<0A>`, `<0D>` and `<FF>` for one byte, and `<3*ab@>` for `ab0ab1ab2`. None for want
-/// of memory.
+/// for their namespaces behind `<`, `<00>`, `<09>`, `<0A>`, `<0B>`, `<0D>` and `<FEFF>` for the character of this number, `<FF>` for the one
+/// byte FF, and `<3*ab@>` for `ab0ab1ab2`. None for want of memory.
 pub fn bytes_of(alloc: Global, text: &str) -> Option<Vec<u8>> {
     let mut whole = Vec::new(alloc);
     for (place, part) in text.split('<').enumerate() {

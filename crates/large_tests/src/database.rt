@@ -4,7 +4,7 @@ use command_trials::{
 };
 use outside_dm::FileList;
 use schema_dm::ShapeTable;
-use std::alloc::Global;
+use std::alloc::{AllocError, Global};
 use table_csv::{Database, table_text};
 use value_dm::TryCopy;
 
@@ -22,28 +22,135 @@ CREATE TABLE Note (text TEXT, size INTEGER);
 + members
 (join (rename (table Person) id person) (table Member))";
 
-const TABLES: [&str; 4] = ["d/Dept.csv", "d/Person.csv", "d/Member.csv", "d/Note.csv"];
+// The files of its tables, with their places.
+const TABLES: [(u32, &str); 4] = [
+    (0, "d/Dept.csv"),
+    (1, "d/Person.csv"),
+    (2, "d/Member.csv"),
+    (3, "d/Note.csv"),
+];
 
-// The canonical text of a table.
-fn text_at(alloc: Global, database: &Database, place: usize) -> Option<Vec<u8>> {
+// The canonical text of the table at this place, counted from 0, and no text where there is none.
+fn text_at(alloc: Global, database: &Database, place: u32) -> Result<Vec<u8>, AllocError> {
     let tables = database.schema().tables();
-    if place >= tables.len() {
-        return None;
+    let at = place as usize;
+    if at >= tables.len() {
+        return Ok(Vec::new(alloc));
     }
-    let table = &tables[place];
+    let table = &tables[at];
     let shape = ShapeTable {
-        name: table.name.copy(alloc).ok()?,
-        columns: table.columns.copy(alloc).ok()?,
+        name: table.name.copy(alloc)?,
+        columns: table.columns.copy(alloc)?,
     };
-    table_text(alloc, &shape, database.rows_of(place)).ok()
+    table_text(alloc, &shape, database.rows_of(place))
+}
+
+// The texts of the tables of the generator's database of 20 persons.
+const SMALL: [&str; 4] = [
+    "id,name
+1,d1
+2,d2
+3,d3
+",
+    "id,name,dept,boss
+1,p1,2,\\N
+10,p10,\\N,5
+11,p11,3,5
+12,p12,1,6
+13,p13,2,6
+14,\\N,3,7
+15,p15,\\N,7
+16,p16,2,8
+17,p17,3,8
+18,p18,1,9
+19,p19,2,9
+2,p2,3,1
+20,p20,\\N,10
+3,p3,1,1
+4,p4,2,2
+5,p5,\\N,2
+6,p6,1,3
+7,\\N,2,3
+8,p8,3,4
+9,p9,1,4
+",
+    "person,dept
+1,1
+10,1
+11,1
+12,1
+13,1
+14,1
+15,1
+16,1
+17,1
+18,1
+19,1
+2,1
+20,1
+3,1
+4,1
+5,1
+6,1
+7,1
+8,1
+9,1
+",
+    "text,size
+n0,1
+n0,2
+n1,1
+n1,2
+n2,2
+n2,\\N
+n3,1
+n3,\\N
+n4,1
+n4,2
+n5,2
+n5,\\N
+n6,1
+n6,\\N
+n7,1
+n7,2
+n8,2
+n8,\\N
+n9,1
+n9,\\N
+",
+];
+
+fn has_text(alloc: Global, database: &Database, place: u32, text: &str) -> bool {
+    match text_at(alloc, database, place) {
+        Ok(found) => found.as_slice() == text.as_bytes(),
+        Err(_) => false,
+    }
+}
+
+// Whether each table of 20 persons has its text.
+fn is_small(alloc: Global) -> Option<bool> {
+    let database = make_database(alloc, 20).ok()?;
+    for ((place, _), text) in TABLES.iter().zip(SMALL.iter()) {
+        if !has_text(alloc, &database, *place, text) {
+            return Some(false);
+        }
+    }
+    Some(true)
+}
+
+#[test]
+fn a_small_database(rt: HostRuntime) {
+    let found = is_small(rt.alloc()).unwrap_or(false);
+    assert!(rt; found);
 }
 
 // The folder of the generator's database, with the queries.
 fn folder(alloc: Global) -> Option<FileList> {
     let database = make_database(alloc, LARGE).ok()?;
     let mut files = files_of(alloc, FILES)?;
-    for (place, name) in TABLES.iter().enumerate() {
-        add_file(alloc, &mut files, name, text_at(alloc, &database, place)?)?;
+    for (place, name) in TABLES {
+        let text = text_at(alloc, &database, place).ok()?;
+        add_file(alloc, &mut files, name, text)?;
     }
     Some(files)
 }
