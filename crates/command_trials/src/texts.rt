@@ -1,18 +1,12 @@
 use std::alloc::Global;
 
-// What stands for another text behind `<`, and the text.
-const MARKS: [(&str, &str); 11] = [
+// What stands for a namespace behind `<`, and the namespace behind `<`.
+const PREFIXES: [(&str, &str); 5] = [
     ("~", "<http://foo.example/DB/"),
     ("rdf:", "<http://www.w3.org/1999/02/22-rdf-syntax-ns#"),
     ("rdfs:", "<http://www.w3.org/2000/01/rdf-schema#"),
     ("owl:", "<http://www.w3.org/2002/07/owl#"),
     ("xsd:", "<http://www.w3.org/2001/XMLSchema#"),
-    ("00>", "\0"),
-    ("09>", "\t"),
-    ("0A>", "\n"),
-    ("0B>", "\u{b}"),
-    ("0D>", "\r"),
-    ("FEFF>", "\u{feff}"),
 ];
 
 fn push_both(whole: &mut Vec<u8>, first: &[u8], second: &str) -> Option<()> {
@@ -20,17 +14,23 @@ fn push_both(whole: &mut Vec<u8>, first: &[u8], second: &str) -> Option<()> {
     whole.extend_from_slice(second.as_bytes()).ok()
 }
 
-// What stands behind `<`, with its mark as what the mark stands for, and else as it is.
-fn push_marked(whole: &mut Vec<u8>, part: &str) -> Option<()> {
-    for (mark, text) in MARKS {
-        if let Some(rest) = part.strip_prefix(mark) {
-            return push_both(whole, text.as_bytes(), rest);
+// What stands behind `<`, with a prefix as its namespace.
+fn push_iri(whole: &mut Vec<u8>, part: &str) -> Option<()> {
+    for (prefix, namespace) in PREFIXES {
+        if let Some(rest) = part.strip_prefix(prefix) {
+            return push_both(whole, namespace.as_bytes(), rest);
         }
     }
-    match part.strip_prefix("FF>") {
-        Some(rest) => push_both(whole, &[255], rest),
-        None => push_both(whole, b"<", part),
+    push_both(whole, b"<", part)
+}
+
+// The bytes of hexadecimal digits, two a byte, none of them a small letter, up to `>`, and what stands behind.
+fn marked_bytes(alloc: Global, part: &str) -> Option<(Vec<u8>, &str)> {
+    let (digits, rest) = part.split_once('>')?;
+    if digits.len() == 0 || digits.bytes().any(|digit| digit.is_ascii_lowercase()) {
+        return None;
     }
+    Some((hex::decode(alloc, digits).ok()?, rest))
 }
 
 fn push_with_digits(whole: &mut Vec<u8>, text: &str, digits: &[u8]) -> Option<()> {
@@ -67,15 +67,16 @@ fn pushes_repeated(alloc: Global, whole: &mut Vec<u8>, part: &str) -> Option<boo
 
 fn push_part(alloc: Global, whole: &mut Vec<u8>, part: &str) -> Option<()> {
     if pushes_repeated(alloc, whole, part)? {
-        Some(())
-    } else {
-        push_marked(whole, part)
+        return Some(());
+    }
+    match marked_bytes(alloc, part) {
+        Some((bytes, rest)) => push_both(whole, bytes.as_slice(), rest),
+        None => push_iri(whole, part),
     }
 }
 
 /// The bytes that a text of a case stands for. In it `<~` stands for `<http://foo.example/DB/`, `<rdf:`, `<rdfs:`, `<owl:` and `<xsd:`
-/// for their namespaces behind `<`, `<00>`, `<09>`, `<0A>`, `<0B>`, `<0D>` and `<FEFF>` for the character of this number, `<FF>` for the one
-/// byte FF, and `<3*ab@>` for `ab0ab1ab2`. None for want of memory.
+/// for their namespaces behind `<`, `<C3A9>` for the two bytes C3 and A9, and `<3*ab@>` for `ab0ab1ab2`. None for want of memory.
 pub fn bytes_of(alloc: Global, text: &str) -> Option<Vec<u8>> {
     let mut whole = Vec::new(alloc);
     for (place, part) in text.split('<').enumerate() {
