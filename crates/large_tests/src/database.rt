@@ -1,7 +1,5 @@
 use bench_dm::make_database;
-use command_trials::{
-    Fault, add_file, files_of, output_of, run_on, run_without_faults, shelf_of,
-};
+use command_trials::{Fault, add_file, files_of, output_of, run_on, run_without_faults, shelf_of};
 use outside_dm::FileList;
 use schema_dm::ShapeTable;
 use std::alloc::{AllocError, Global};

@@ -1,4 +1,6 @@
+use command_trials::{add_file, run_without_faults};
 use names_dm::{Iri, Literal, LiteralType, Term, Triple, Triples, Var};
+use outside_dm::FileList;
 use pattern_dm::{Operand, Pattern, is_well_formed, solve};
 use sqlite_items::Boxed;
 use std::alloc::Global;
@@ -21,8 +23,12 @@ fn triple(alloc: Global, subject: &str, predicate: &str, object: &str) -> Option
 
 fn push_two(alloc: Global, triples: &mut Triples, number: u32) -> Option<()> {
     let subject = format!(in alloc; "{number}").ok()?;
-    triples.push(triple(alloc, subject.as_str(), "p", "x")?).ok()?;
-    triples.push(triple(alloc, subject.as_str(), "q", "z")?).ok()
+    triples
+        .push(triple(alloc, subject.as_str(), "p", "x")?)
+        .ok()?;
+    triples
+        .push(triple(alloc, subject.as_str(), "q", "z")?)
+        .ok()
 }
 
 fn built(alloc: Global, triples: Triples) -> Option<Graph> {
@@ -101,5 +107,35 @@ fn are_found(alloc: Global) -> Option<bool> {
 #[test]
 fn many_subjects(rt: HostRuntime) {
     let found = are_found(rt.alloc()).unwrap_or(false);
+    assert!(rt; found);
+}
+
+// Many ranges of one property, and many triples of it.
+fn crowd(alloc: Global) -> Option<FileList> {
+    let mut text = String::new(alloc);
+    for number in 0..60_000 {
+        let lines = format!(in alloc;
+            "<p> <http://www.w3.org/2000/01/rdf-schema#range> <c{number}> .\n<s{number}> <p> <o> .\n"
+        );
+        text.push_str(lines.ok()?.as_str()).ok()?;
+    }
+    let mut files = FileList::new(alloc);
+    add_file(
+        alloc,
+        &mut files,
+        "g",
+        Vec::from_slice(alloc, text.as_bytes()).ok()?,
+    )?;
+    Some(files)
+}
+
+fn is_crowd_consistent(alloc: Global) -> Option<bool> {
+    let ended = run_without_faults(alloc, "consistent g", crowd(alloc)?)?;
+    Some((ended.number == 0) & (ended.output.as_slice() == b"consistent\n".as_slice()))
+}
+
+#[test]
+fn many_ranges_of_one_property(rt: HostRuntime) {
+    let found = is_crowd_consistent(rt.alloc()).unwrap_or(false);
     assert!(rt; found);
 }
