@@ -1,4 +1,4 @@
-//! Tests of `pattern_dm`, in a crate of their own so that its proofs are checked once.
+//! A test of patterns over 1,200,000 triples, which a plain comparison of every two rows would not end in time.
 #![tactic(auto)]
 
 #[cfg(test)]

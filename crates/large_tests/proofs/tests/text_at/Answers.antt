@@ -9,7 +9,7 @@ use Rattle.schema_dm.specs.declared.table.Table.{Table}
 use Rattle.table_csv.specs.CanonicalText.{AreTextColumns}
 use Rattle.table_csv.specs.Cells.{AreRowsOf, Row}
 use Rattle.table_csv.proofs.Databases.{text_columns, rows_fit}
-use Rattle.large_tests.proofs.database.text_at.Goals as goal
+use Rattle.large_tests.proofs.tests.text_at.Goals as goal
 
 pub table_text-requires-clause-columns : goal.table_text-requires-clause-columns
 table_text-requires-clause-columns c =

@@ -1,5 +1,0 @@
-//! Tests of `query_text_dm` and `query_tokens_dm`, in a crate of their own so that their proofs are checked once.
-#![tactic(auto)]
-
-#[cfg(test)]
-mod tests;
