@@ -4,29 +4,29 @@ use std::alloc::Global;
 // The cases stand here, and not in the scripts of `trials`, since the program that Rattle's own compiler builds takes more of the stack than
 // main's has.
 const SCRIPT: &str = r#"Patterns and conditions at the limit of open parts, and beyond it.
-% an empty graph
+%% an empty graph
 + g
-% 2048 braces are open, and the text ends
+%% 2048 braces are open, and the text ends
 dbrdf sparql g p
 + p
 SELECT DISTINCT ?a WHERE <2048*{><>
 ! 1 dbrdf: refused 47 BadPattern place 2074
-% 2048 braces are open, and a parenthesis is closed and opened
+%% 2048 braces are open, and a parenthesis is closed and opened
 dbrdf sparql g p
 + p
 SELECT DISTINCT ?a WHERE <2048*{>)(<>
 ! 1 dbrdf: refused 47 BadPattern place 2074
-% a 2049th brace
+%% a 2049th brace
 dbrdf sparql g p
 + p
 SELECT DISTINCT ?a WHERE <2049*{><>
 ! 1 dbrdf: refused 48 TooNested place 2074
-% a parenthesis as the 2049th
+%% a parenthesis as the 2049th
 dbrdf sparql g p
 + p
 SELECT DISTINCT ?a WHERE <2048*{>(<>
 ! 1 dbrdf: refused 48 TooNested place 2074
-% patterns with 2048 open braces
+%% patterns with 2048 open braces
 dbrdf sparql g p1
 dbrdf sparql g p2
 dbrdf sparql g p3
@@ -48,7 +48,7 @@ SELECT DISTINCT ?a WHERE <1023*{{}OPTIONAL{>{}<1023*}}><>
 = 0
 ?a
 
-% conditions with 2048 open braces and parentheses
+%% conditions with 2048 open braces and parentheses
 dbrdf sparql g p1
 dbrdf sparql g p2
 dbrdf sparql g p3
@@ -61,7 +61,7 @@ SELECT DISTINCT ?a WHERE {{}FILTER(<2046*(>true<2046*||true)>)}<>
 = 0
 ?a
 
-% 2049 open parts that are closed
+%% 2049 open parts that are closed
 dbrdf sparql g p
 + p
 SELECT DISTINCT ?a WHERE <2049*{><2049*}>

@@ -1,4 +1,4 @@
-//! Tests of `names_dm`, in a crate of their own so that its proofs are checked once.
+//! Tests of `names_dm`: of what no command of the program shows.
 #![tactic(auto)]
 
 #[cfg(test)]

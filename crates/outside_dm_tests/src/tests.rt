@@ -1,8 +1,6 @@
-ghost use Rattle.std.specs.Prelude.{◌≡◌, IfSome, encode_utf8_all};
-
 use outside_dm::{
-    Calls, Cut, Cuts, FileList, FolderShelf, LoadError, MemoryShelf, MemorySink, NamedFile,
-    NoFaultShelf, NoFaultSink, PutError, Shelf, Sink, StoreError, StreamSink, read_whole,
+    Cut, Cuts, FileList, FolderShelf, LoadError, NamedFile, PutError, Shelf, Sink, StoreError,
+    StreamSink, read_whole,
 };
 use std::alloc::Global;
 use std::io::{Read, Write};
@@ -10,255 +8,55 @@ use std::test::Fail;
 use std::{fs, io};
 use value_dm::{Bytes, Text, TryCopy};
 
-fn held(alloc: Global, bytes: &[u8]) -> Option<Bytes> {
-    Some(Bytes::from_vec(Vec::from_slice(alloc, bytes).ok()?))
-}
-
-/// A file of this name with these bytes.
-fn named(alloc: Global, name: &str, bytes: &[u8]) -> Option<NamedFile>
-    ensures { IfSome result (λ file. encode_utf8_all file.name ≡ name.now) }
-{
-    let bytes = held(alloc, bytes)?;
-    let name = Text::from_str(alloc, name).ok()?;
-    Some(NamedFile { name, bytes })
-}
-
-fn add(alloc: Global, files: &mut FileList, name: &str, bytes: &[u8]) -> Option<()> {
-    let file = named(alloc, name, bytes)?;
-    if files.lacks(name) {
-        files.push(file).ok()
-    } else {
-        None
-    }
-}
-
-/// The files `a` and `b`.
-fn two_files(alloc: Global) -> Option<FileList> {
-    let mut files = FileList::new(alloc);
-    add(alloc, &mut files, "a", b"alpha")?;
-    add(alloc, &mut files, "b", b"")?;
-    Some(files)
-}
-
-fn is_file(file: Option<&NamedFile>, name: &str, bytes: &[u8]) -> bool {
-    match file {
-        Some(file) => (file.name.as_str() == name) & (file.bytes.as_slice() == bytes),
-        None => false,
-    }
-}
-
-fn are_two_files(files: &FileList) -> bool {
-    let slice = files.as_slice();
-    (files.len() == 2)
-        & is_file(slice.get(0), "a", b"alpha")
-        & is_file(slice.get(1), "b", b"")
-        & !files.lacks("b")
-        & files.lacks("c")
-}
-
-fn is_list_copied(alloc: Global) -> bool {
-    match two_files(alloc) {
-        Some(files) => match files.copy(alloc) {
-            Ok(copy) => are_two_files(&copy),
+fn is_copied<T: TryCopy + PartialEq + Drop>(alloc: Global, value: Option<T>) -> bool {
+    match value {
+        Some(value) => match value.copy(alloc) {
+            Ok(copy) => copy == value,
             Err(_) => false,
         },
         None => false,
     }
 }
 
-#[test]
-fn files_in_a_list(rt: HostRuntime) -> Result<(), Fail> {
-    let found = is_list_copied(rt.alloc());
-    assert!(rt; found);
-    Ok(())
+fn named(alloc: Global, name: &str) -> Option<NamedFile> {
+    let mut bytes = Bytes::new(alloc);
+    bytes.push(7).ok()?;
+    let name = Text::from_str(alloc, name).ok()?;
+    Some(NamedFile { name, bytes })
 }
 
-fn calls_of(alloc: Global, numbers: &[u64]) -> Option<Calls> {
-    let mut calls = Calls::new(alloc);
-    for number in numbers {
-        calls.push(*number).ok()?;
+fn is_named(file: &NamedFile, name: &str) -> bool {
+    (file.name.as_str() == name) & (file.bytes.as_slice() == [7].as_slice())
+}
+
+fn list(alloc: Global) -> Option<FileList> {
+    let mut files = FileList::new(alloc);
+    let file = named(alloc, "a")?;
+    if files.lacks(file.name.as_str()) {
+        files.push(file).ok()?;
     }
-    Some(calls)
+    Some(files)
 }
 
-fn shelf_of(alloc: Global) -> Option<MemoryShelf> {
-    let files = two_files(alloc)?;
-    let loads = calls_of(alloc, &[3])?;
-    let stores = calls_of(alloc, &[2, 3])?;
-    Some(MemoryShelf::new(alloc, files, loads, stores))
+fn is_list_copied(alloc: Global) -> Option<bool> {
+    let files = list(alloc)?;
+    let copy = files.copy(alloc).ok()?;
+    let file = copy.as_slice().first()?;
+    Some(is_named(file, "a") & (copy.len() == 1))
 }
 
-fn load<S: Shelf>(shelf: &mut S, name: &str, into: &mut Vec<u8>) -> Result<(), LoadError> {
-    shelf.load(name, into)
-}
-
-fn store<S: Shelf>(shelf: &mut S, name: &str, bytes: &[u8]) -> Result<(), StoreError> {
-    shelf.store(name, bytes)
-}
-
-fn is_loaded<S: Shelf>(
-    alloc: Global,
-    shelf: &mut S,
-    name: &str,
-    answer: Result<(), LoadError>,
-    text: &[u8],
-) -> bool {
-    match Vec::from_slice(alloc, b">") {
-        Ok(mut into) => {
-            let found = load(shelf, name, &mut into);
-            (found == answer) & (into.as_slice() == text)
-        }
-        Err(_) => false,
-    }
-}
-
-fn is_stored<S: Shelf>(
-    shelf: &mut S,
-    name: &str,
-    bytes: &[u8],
-    answer: Result<(), StoreError>,
-) -> bool {
-    store(shelf, name, bytes) == answer
-}
-
-fn is_content(shelf: &MemoryShelf, name: &str, content: &[u8]) -> bool {
-    shelf.content(name) == Some(content)
-}
-
-const ABSENT: Result<(), LoadError> = Err(LoadError::Absent);
-
-const NOT_LOADED: Result<(), LoadError> = Err(LoadError::Failed);
-
-const NOT_STORED: Result<(), StoreError> = Err(StoreError::Failed);
-
-fn is_load(alloc: Global, shelf: &mut MemoryShelf, call: u32) -> bool {
-    match call {
-        1 => is_loaded(alloc, shelf, "a", Ok(()), b">alpha"),
-        2 => is_loaded(alloc, shelf, "none", ABSENT, b">"),
-        3 => is_loaded(alloc, shelf, "a", NOT_LOADED, b">"),
-        4 => is_loaded(alloc, shelf, "b", Ok(()), b">"),
-        _ => is_loaded(alloc, shelf, "a", Ok(()), b">alpha"),
-    }
-}
-
-fn is_store(shelf: &mut MemoryShelf, call: u32) -> bool {
-    match call {
-        1 => is_stored(shelf, "a", b"new", Ok(())) & is_content(shelf, "a", b"new"),
-        2 => is_stored(shelf, "a", b"lost", NOT_STORED) & is_content(shelf, "a", b"new"),
-        3 => is_stored(shelf, "c", b"lost", NOT_STORED) & shelf.content("c").is_none(),
-        _ => is_stored(shelf, "c", b"made", Ok(())) & is_content(shelf, "c", b"made"),
-    }
-}
-
-/// How many calls answer as they should, one after the other.
-fn counted_calls(alloc: Global, shelf: &mut MemoryShelf) -> u32 {
-    let mut count = 0u32;
-    for call in 1..6 {
-        count = count.saturating_add(u32::from(is_load(alloc, shelf, call)));
-    }
-    for call in 1..5 {
-        count = count.saturating_add(u32::from(is_store(shelf, call)));
-    }
-    count
-}
-
-fn fails_at_listed_calls(alloc: Global) -> bool {
-    match shelf_of(alloc) {
-        Some(mut shelf) => {
-            let count = counted_calls(alloc, &mut shelf);
-            (count == 9) & is_content(&shelf, "b", b"")
-        }
-        None => false,
-    }
-}
-
-fn has_no_faults(alloc: Global, shelf: &mut NoFaultShelf) -> bool {
-    let absent = is_loaded(alloc, shelf, "none", ABSENT, b">");
-    let loaded = is_loaded(alloc, shelf, "a", Ok(()), b">alpha");
-    let stored = is_stored(shelf, "a", b"new", Ok(()));
-    let content = shelf.content("a") == Some(b"new".as_slice());
-    absent & loaded & stored & content & shelf.content("none").is_none()
-}
-
-fn is_without_faults(alloc: Global) -> bool {
-    match two_files(alloc) {
-        Some(files) => has_no_faults(alloc, &mut NoFaultShelf::new(files)),
-        None => false,
-    }
-}
-
-#[test]
-fn shelves_in_memory(rt: HostRuntime) -> Result<(), Fail> {
-    let found = fails_at_listed_calls(rt.alloc());
-    assert!(rt; found);
-    let found = is_without_faults(rt.alloc());
-    assert!(rt; found);
-    Ok(())
-}
-
-fn cuts_of(alloc: Global, pairs: &[(u64, u64)]) -> Option<Cuts> {
+fn cuts(alloc: Global) -> Option<Cuts> {
     let mut cuts = Cuts::new(alloc);
-    for &(call, kept) in pairs {
-        cuts.push(Cut { call, kept }).ok()?;
-    }
+    cuts.push(Cut { call: 2, kept: 3 }).ok()?;
     Some(cuts)
 }
 
-fn copied_cuts(alloc: Global) -> Option<Cuts> {
-    cuts_of(alloc, &[(2, 0), (3, 2), (4, 3), (5, 9), (5, 1)])?
-        .copy(alloc)
-        .ok()
-}
-
-fn put<S: Sink>(sink: &mut S, piece: &[u8]) -> Result<(), PutError> {
-    sink.put(piece)
-}
-
-const NOT_PUT: Result<(), PutError> = Err(PutError::Failed);
-
-fn is_put(sink: &mut MemorySink, piece: &[u8], answer: Result<(), PutError>, held: &[u8]) -> bool {
-    let found = put(sink, piece);
-    (found == answer) & (sink.bytes() == held)
-}
-
-fn is_memory_put(sink: &mut MemorySink, call: u32) -> bool {
-    match call {
-        1 => is_put(sink, b"abc", Ok(()), b"abc"),
-        2 => is_put(sink, b"def", NOT_PUT, b"abc"),
-        3 => is_put(sink, b"def", NOT_PUT, b"abcde"),
-        4 => is_put(sink, b"fgh", NOT_PUT, b"abcdefgh"),
-        5 => is_put(sink, b"ij", NOT_PUT, b"abcdefghij"),
-        _ => is_put(sink, b"k", Ok(()), b"abcdefghijk"),
-    }
-}
-
-fn counted_puts(alloc: Global) -> Option<u32> {
-    let mut sink = MemorySink::new(alloc, copied_cuts(alloc)?);
-    let mut count = 0u32;
-    for call in 1..7 {
-        count = count.saturating_add(u32::from(is_memory_put(&mut sink, call)));
-    }
-    Some(count)
-}
-
-fn are_both_put<S: Sink>(sink: &mut S, one: &[u8], other: &[u8]) -> bool {
-    let first = put(sink, one);
-    let second = put(sink, other);
-    (first == Ok(())) & (second == Ok(()))
-}
-
-fn is_put_without_faults(alloc: Global) -> bool {
-    let mut sink = NoFaultSink::new(alloc);
-    let both = are_both_put(&mut sink, b"abc", b"de");
-    both & (sink.bytes() == b"abcde".as_slice())
-}
-
 #[test]
-fn sinks_in_memory(rt: HostRuntime) -> Result<(), Fail> {
-    let found = counted_puts(rt.alloc());
-    assert!(rt; found == Some(6));
-    let found = is_put_without_faults(rt.alloc());
-    assert!(rt; found);
+fn copies(rt: HostRuntime) -> Result<(), Fail> {
+    let copied = is_list_copied(rt.alloc());
+    assert_eq!(rt; copied, Some(true));
+    let copied = is_copied(rt.alloc(), cuts(rt.alloc()));
+    assert!(rt; copied);
     Ok(())
 }
 
@@ -304,62 +102,60 @@ const FULL: i32 = 28;
 
 const NO_MEMORY: i32 = 12;
 
-fn put_through<W: Write>(writer: &mut W, piece: &[u8]) -> Result<(), PutError> {
-    let mut sink = StreamSink::new(writer);
-    put(&mut sink, piece)
+type PutCase = (
+    usize,
+    Option<i32>,
+    Option<i32>,
+    Result<(), PutError>,
+    &'static [u8],
+    usize,
+);
+
+// How many writes take a byte, the errors behind them and at the flush, and then the answer to a put of `abc`, what was taken, and how many
+// writes were asked for.
+const PUTS: [PutCase; 6] = [
+    (9, None, None, Ok(()), b"abc", 3),
+    (2, None, None, Err(PutError::Failed), b"ab", 3),
+    (1, Some(FULL), None, Err(PutError::Failed), b"a", 2),
+    (1, Some(NO_MEMORY), None, Err(PutError::Memory), b"a", 2),
+    (9, None, Some(FULL), Err(PutError::Failed), b"abc", 3),
+    (9, None, Some(NO_MEMORY), Err(PutError::Memory), b"abc", 3),
+];
+
+fn put_through(slow: &mut Slow) -> Result<(), PutError> {
+    StreamSink::new(slow).put(b"abc")
 }
 
-fn put_both_through<W: Write>(writer: &mut W, one: &[u8], other: &[u8]) -> bool {
-    let mut sink = StreamSink::new(writer);
-    are_both_put(&mut sink, one, other)
-}
-
-fn is_put_through(alloc: Global) -> bool {
-    let mut held = Vec::new(alloc);
-    let both = put_both_through(&mut held, b"ab", b"c");
-    both & (held.as_slice() == b"abc".as_slice())
-}
-
-fn is_slow_put(mut slow: Slow, answer: Result<(), PutError>, bytes: &[u8], writes: usize) -> bool {
-    let found = put_through(&mut slow, b"abc");
-    (found == answer) & (slow.bytes.as_slice() == bytes) & (slow.writes == writes)
-}
-
-fn slow_writer(
-    alloc: Global,
-    most: usize,
-    write_error: Option<i32>,
-    flush_error: Option<i32>,
-) -> Slow {
-    Slow {
-        bytes: Vec::new(alloc),
-        writes: 0,
-        most,
-        write_error,
-        flush_error,
+fn wrong_put(alloc: Global) -> Option<usize> {
+    for (place, case) in PUTS.iter().enumerate() {
+        let (most, write_error, flush_error, answer, bytes, writes) = *case;
+        let mut slow = Slow {
+            bytes: Vec::new(alloc),
+            writes: 0,
+            most,
+            write_error,
+            flush_error,
+        };
+        let found = put_through(&mut slow);
+        if (found != answer) | (slow.bytes.as_slice() != bytes) | (slow.writes != writes) {
+            return Some(place);
+        }
     }
+    None
 }
 
-const PUT_SHORT: Result<(), PutError> = Err(PutError::Memory);
+fn put_twice(alloc: Global) -> Option<Vec<u8>> {
+    let mut held = Vec::new(alloc);
+    let mut sink = StreamSink::new(&mut held);
+    sink.put(b"ab").ok()?;
+    sink.put(b"c").ok()?;
+    Some(held)
+}
 
-fn is_slow_case(alloc: Global, case: u32) -> bool {
-    match case {
-        0 => is_slow_put(slow_writer(alloc, 9, None, None), Ok(()), b"abc", 3),
-        1 => is_slow_put(slow_writer(alloc, 2, None, None), NOT_PUT, b"ab", 3),
-        2 => is_slow_put(slow_writer(alloc, 1, Some(FULL), None), NOT_PUT, b"a", 2),
-        3 => is_slow_put(
-            slow_writer(alloc, 1, Some(NO_MEMORY), None),
-            PUT_SHORT,
-            b"a",
-            2,
-        ),
-        4 => is_slow_put(slow_writer(alloc, 9, None, Some(FULL)), NOT_PUT, b"abc", 3),
-        _ => is_slow_put(
-            slow_writer(alloc, 9, None, Some(NO_MEMORY)),
-            PUT_SHORT,
-            b"abc",
-            3,
-        ),
+fn is_put_twice(alloc: Global) -> bool {
+    match put_twice(alloc) {
+        Some(held) => held.as_slice() == b"abc".as_slice(),
+        None => false,
     }
 }
 
@@ -382,106 +178,96 @@ impl Read for Drip<'_> {
     }
 }
 
-fn read<R: Read>(reader: &mut R, into: &mut Vec<u8>) -> Result<(), LoadError> {
-    read_whole(reader, into)
-}
+// The error behind `abc`, the answer, and what stands behind a byte that was there then.
+const READS: [(Option<i32>, Result<(), LoadError>, &[u8]); 3] = [
+    (None, Ok(()), b">abc"),
+    (Some(FULL), Err(LoadError::Failed), b">"),
+    (Some(NO_MEMORY), Err(LoadError::Memory), b">"),
+];
 
-fn is_read(alloc: Global, mut drip: Drip, answer: Result<(), LoadError>, text: &[u8]) -> bool {
-    match Vec::from_slice(alloc, b">") {
-        Ok(mut into) => {
-            let found = read(&mut drip, &mut into);
-            (found == answer) & (into.as_slice() == text)
-        }
-        Err(_) => false,
-    }
-}
-
-fn dripping(error: Option<i32>) -> Drip<'static> {
-    Drip {
+fn is_read(
+    alloc: Global,
+    error: Option<i32>,
+    answer: Result<(), LoadError>,
+    bytes: &[u8],
+) -> Option<bool> {
+    let mut into = Vec::from_slice(alloc, b">").ok()?;
+    let mut drip = Drip {
         bytes: b"abc",
         error,
-    }
+    };
+    let found = read_whole(&mut drip, &mut into);
+    Some((found == answer) & (into.as_slice() == bytes))
 }
 
-fn is_drip_case(alloc: Global, case: u32) -> bool {
-    match case {
-        0 => is_read(alloc, dripping(None), Ok(()), b">abc"),
-        1 => is_read(alloc, dripping(Some(FULL)), NOT_LOADED, b">"),
-        _ => is_read(
-            alloc,
-            dripping(Some(NO_MEMORY)),
-            Err(LoadError::Memory),
-            b">",
-        ),
+fn wrong_read(alloc: Global) -> Option<usize> {
+    for (place, case) in READS.iter().enumerate() {
+        let (error, answer, bytes) = *case;
+        if is_read(alloc, error, answer, bytes) != Some(true) {
+            return Some(place);
+        }
     }
+    None
 }
 
 #[test]
 fn writers_and_readers(rt: HostRuntime) -> Result<(), Fail> {
-    let found = is_put_through(rt.alloc());
+    let wrong = wrong_put(rt.alloc());
+    assert_eq!(rt; wrong, None);
+    let found = is_put_twice(rt.alloc());
     assert!(rt; found);
-    for case in 0..6 {
-        let found = is_slow_case(rt.alloc(), case);
-        assert!(rt; found, "{case}");
-    }
-    for case in 0..3 {
-        let found = is_drip_case(rt.alloc(), case);
-        assert!(rt; found, "{case}");
-    }
+    let wrong = wrong_read(rt.alloc());
+    assert_eq!(rt; wrong, None);
     Ok(())
 }
 
-fn sevens(alloc: Global) -> Option<Vec<u8>> {
-    vec![in alloc; 7u8; 20_000].ok()
-}
+// What is stored, by name and by how many bytes 7 it has, and the answer.
+const STORES: [(&str, usize, Result<(), StoreError>); 3] = [
+    ("stored/deep/file", 30_000, Ok(())),
+    ("stored/deep/file", 20_000, Ok(())),
+    ("stored/deep", 20_000, Err(StoreError::Failed)),
+];
 
-fn stores_in_folder<S: Shelf>(alloc: Global, shelf: &mut S) -> bool {
-    match sevens(alloc) {
-        Some(text) => {
-            let made = is_stored(shelf, "stored/deep/file", b"a longer text before", Ok(()));
-            let replaced = is_stored(shelf, "stored/deep/file", text.as_slice(), Ok(()));
-            let refused = is_stored(shelf, "stored/deep", text.as_slice(), NOT_STORED);
-            made & replaced & refused
+// What is loaded then, one behind the other, the answer, and how many bytes 7 stand then.
+const LOADS: [(&str, Result<(), LoadError>, usize); 5] = [
+    ("stored/none", Err(LoadError::Absent), 0),
+    ("stored/deep/file", Ok(()), 20_000),
+    ("stored/deep/file/none", Err(LoadError::Failed), 20_000),
+    ("stored", Err(LoadError::Failed), 20_000),
+    ("stored/deep/file", Ok(()), 40_000),
+];
+
+fn wrong_store<S: Shelf>(alloc: Global, shelf: &mut S) -> Option<&'static str> {
+    let Ok(sevens) = vec![in alloc; 7u8; 30_000] else {
+        return Some("no memory");
+    };
+    for (name, count, answer) in STORES {
+        if shelf.store(name, &sevens[..count]) != answer {
+            return Some(name);
         }
-        None => false,
     }
+    None
 }
 
-fn is_appended<S: Shelf>(
-    shelf: &mut S,
-    name: &str,
-    into: &mut Vec<u8>,
-    answer: Result<(), LoadError>,
-    count: usize,
-) -> bool {
-    let found = load(shelf, name, into);
-    let same = into.as_slice().iter().all(|&byte| byte == 7);
-    (found == answer) & (into.len() == count) & same
-}
-
-fn loads_from_folder<S: Shelf>(alloc: Global, shelf: &mut S) -> bool {
+fn wrong_load<S: Shelf>(alloc: Global, shelf: &mut S) -> Option<&'static str> {
     let mut into = Vec::new(alloc);
-    let none = is_appended(shelf, "stored/none", &mut into, ABSENT, 0);
-    let file = is_appended(shelf, "stored/deep/file", &mut into, Ok(()), 20_000);
-    let below = is_appended(
-        shelf,
-        "stored/deep/file/none",
-        &mut into,
-        NOT_LOADED,
-        20_000,
-    );
-    let folder = is_appended(shelf, "stored", &mut into, NOT_LOADED, 20_000);
-    let again = is_appended(shelf, "stored/deep/file", &mut into, Ok(()), 40_000);
-    none & file & below & folder & again
+    for (name, answer, count) in LOADS {
+        let found = shelf.load(name, &mut into);
+        let same = into.as_slice().iter().all(|&byte| byte == 7);
+        if (found != answer) | (into.len() != count) | !same {
+            return Some(name);
+        }
+    }
+    None
 }
 
 #[test]
 fn a_shelf_over_a_folder(rt: HostRuntime) -> Result<(), Fail> {
     let mut shelf = FolderShelf::new(&rt, rt.alloc());
-    let stored = stores_in_folder(rt.alloc(), &mut shelf);
-    let loaded = loads_from_folder(rt.alloc(), &mut shelf);
-    assert!(rt; stored);
-    assert!(rt; loaded);
+    let wrong = wrong_store(rt.alloc(), &mut shelf);
+    assert_eq!(rt; wrong, None);
+    let wrong = wrong_load(rt.alloc(), &mut shelf);
+    assert_eq!(rt; wrong, None);
     fs::remove_dir_all(&rt, "stored")?;
     Ok(())
 }

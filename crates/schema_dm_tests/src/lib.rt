@@ -1,4 +1,4 @@
-//! Tests of `schema_dm`, in a crate of their own so that its proofs are checked once.
+//! Tests of `schema_dm`: of what no command of the program shows.
 #![tactic(auto)]
 
 #[cfg(test)]
