@@ -237,12 +237,19 @@ const LOADS: [(&str, Result<(), LoadError>, usize); 5] = [
     ("stored/deep/file", Ok(()), 40_000),
 ];
 
+fn store_sevens<S: Shelf>(
+    alloc: Global,
+    shelf: &mut S,
+    name: &str,
+    count: usize,
+) -> Result<(), StoreError> {
+    let sevens = vec![in alloc; 7u8; count]?;
+    shelf.store(name, sevens.as_slice())
+}
+
 fn wrong_store<S: Shelf>(alloc: Global, shelf: &mut S) -> Option<&'static str> {
-    let Ok(sevens) = vec![in alloc; 7u8; 30_000] else {
-        return Some("no memory");
-    };
     for (name, count, answer) in STORES {
-        if shelf.store(name, &sevens[..count]) != answer {
+        if store_sevens(alloc, shelf, name, count) != answer {
             return Some(name);
         }
     }
