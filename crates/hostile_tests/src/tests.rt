@@ -1,10 +1,8 @@
-use cmd_dm::{Command, Status, fault_text, read_words};
 use command_trials::{
-    Ended, Fault, add_file, bytes_of, files_of, has_files, run_on, run_over, shelf_of, words_of,
+    Ended, Fault, add_file, bytes_of, files_of, has_files, run_on, run_over, shelf_of,
 };
 use outside_dm::FileList;
 use std::alloc::Global;
-use value_dm::NullMode;
 
 // A folder, and a folder with a schema alone. In the graphs `<~` stands for `<http://foo.example/DB/`, and prefixes for their namespaces.
 const FOLDER: &str = "
@@ -180,34 +178,5 @@ fn files_that_are_too_long(rt: HostRuntime) {
     assert!(rt; found);
     let table = "dbrdf: too long table 1\n";
     let found = is_too_long(rt.alloc(), FOLDER, "e/T.csv", table);
-    assert!(rt; found);
-}
-
-fn is_direct(command: &Command) -> bool {
-    match command {
-        Command::Direct {
-            base,
-            folder,
-            nulls,
-        } => {
-            (base.as_str() == "http://foo.example/DB/")
-                & (folder.as_str() == "d")
-                & (*nulls == NullMode::Plain)
-        }
-        _ => false,
-    }
-}
-
-// Whether the words of a command are read, and the line of a fault is told.
-fn are_read_and_told(alloc: Global) -> Option<bool> {
-    let words = words_of(alloc, "direct http://foo.example/DB/ d")?;
-    let command = read_words(alloc, &words).ok()?;
-    let line = fault_text(alloc, &Status::WriteFault).ok()?;
-    Some(is_direct(&command) & (line.as_str() == "dbrdf: write fault\n"))
-}
-
-#[test]
-fn words_and_lines(rt: HostRuntime) {
-    let found = are_read_and_told(rt.alloc()).unwrap_or(false);
     assert!(rt; found);
 }
