@@ -1,5 +1,8 @@
-//! A test of patterns over 1,200,000 triples, which a plain comparison of every two rows would not end in time.
+//! Tests of patterns: over 1,200,000 triples, which a plain comparison of every two rows would not end in time; and that copies are the
+//! same.
 #![tactic(auto)]
 
 #[cfg(test)]
-mod tests;
+mod copies;
+#[cfg(test)]
+mod many;
