@@ -12,7 +12,8 @@ const TABLES: &str =
 const FILE: &str = "n,m,a,b\n1,1,7,x\n1,1,,y\n,2,2,z\n";
 
 // The columns with which a file is read, the file, the columns of a schema's table, and whether the rows fit it.
-const FITS: [(&str, &str, &str, bool); 6] = [
+const FITS: [(&str, &str, &str, bool); 9] = [
+    ("a TEXT, n INTEGER", "a,n\nx,1\n", "a TEXT, n INTEGER", true),
     (
         "a TEXT, n INTEGER",
         "a,n\nx,1\n",
@@ -31,7 +32,19 @@ const FITS: [(&str, &str, &str, bool); 6] = [
     (
         "a TEXT, n INTEGER",
         "a,n\nx,1\n",
+        "a TEXT, n INTEGER, b TEXT",
+        false,
+    ),
+    (
+        "a TEXT, n INTEGER",
+        "a,n\nx,1\n",
         "a TEXT, n DECIMAL",
+        false,
+    ),
+    (
+        "a TEXT",
+        "a\nx\n",
+        "a TEXT); CREATE TABLE AA (b TEXT",
         false,
     ),
 ];
