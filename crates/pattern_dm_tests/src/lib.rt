@@ -1,8 +1,5 @@
-//! Tests of patterns: over 1,200,000 triples, which a plain comparison of every two rows would not end in time; and that copies are the
-//! same.
+//! A test of patterns over 1,200,000 triples, which a plain comparison of every two rows would not end in time.
 #![tactic(auto)]
 
 #[cfg(test)]
-mod copies;
-#[cfg(test)]
-mod many;
+mod tests;
