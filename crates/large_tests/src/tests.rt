@@ -43,6 +43,92 @@ fn text_at(alloc: Global, database: &Database, place: u32) -> Result<Vec<u8>, Al
     table_text(alloc, &shape, database.rows_of(place))
 }
 
+// The texts of the tables of the generator's database of 20 persons, one behind the other.
+const SMALL: &str = "id,name
+1,d1
+2,d2
+3,d3
+id,name,dept,boss
+1,p1,2,\\N
+10,p10,\\N,5
+11,p11,3,5
+12,p12,1,6
+13,p13,2,6
+14,\\N,3,7
+15,p15,\\N,7
+16,p16,2,8
+17,p17,3,8
+18,p18,1,9
+19,p19,2,9
+2,p2,3,1
+20,p20,\\N,10
+3,p3,1,1
+4,p4,2,2
+5,p5,\\N,2
+6,p6,1,3
+7,\\N,2,3
+8,p8,3,4
+9,p9,1,4
+person,dept
+1,1
+10,1
+11,1
+12,1
+13,1
+14,1
+15,1
+16,1
+17,1
+18,1
+19,1
+2,1
+20,1
+3,1
+4,1
+5,1
+6,1
+7,1
+8,1
+9,1
+text,size
+n0,1
+n0,2
+n1,1
+n1,2
+n2,2
+n2,\\N
+n3,1
+n3,\\N
+n4,1
+n4,2
+n5,2
+n5,\\N
+n6,1
+n6,\\N
+n7,1
+n7,2
+n8,2
+n8,\\N
+n9,1
+n9,\\N
+";
+
+fn is_small(alloc: Global) -> Option<bool> {
+    let database = make_database(alloc, 20).ok()?;
+    let mut whole = Vec::new(alloc);
+    for (place, _) in TABLES {
+        let text = text_at(alloc, &database, place).ok()?;
+        whole.extend_from_slice(text.as_slice()).ok()?;
+    }
+    Some(whole.as_slice() == SMALL.as_bytes())
+}
+
+#[test]
+fn a_small_database(rt: HostRuntime) {
+    let found = is_small(rt.alloc()).unwrap_or(false);
+    assert!(rt; found);
+}
+
 // The folder of the generator's database, with the queries.
 fn folder(alloc: Global) -> Option<FileList> {
     let database = make_database(alloc, LARGE).ok()?;
@@ -119,5 +205,35 @@ fn is_benched(alloc: Global) -> Option<bool> {
 #[test]
 fn bench(rt: HostRuntime) {
     let found = is_benched(rt.alloc()).unwrap_or(false);
+    assert!(rt; found);
+}
+
+// Many ranges of one property, and many triples of it.
+fn crowd(alloc: Global) -> Option<FileList> {
+    let mut text = String::new(alloc);
+    for number in 0..60_000 {
+        let lines = format!(in alloc;
+            "<p> <http://www.w3.org/2000/01/rdf-schema#range> <c{number}> .\n<s{number}> <p> <o> .\n"
+        );
+        text.push_str(lines.ok()?.as_str()).ok()?;
+    }
+    let mut files = FileList::new(alloc);
+    add_file(
+        alloc,
+        &mut files,
+        "g",
+        Vec::from_slice(alloc, text.as_bytes()).ok()?,
+    )?;
+    Some(files)
+}
+
+fn is_crowd_consistent(alloc: Global) -> Option<bool> {
+    let ended = run_without_faults(alloc, "consistent g", crowd(alloc)?)?;
+    Some((ended.number == 0) & (ended.output.as_slice() == b"consistent\n".as_slice()))
+}
+
+#[test]
+fn many_ranges_of_one_property(rt: HostRuntime) {
+    let found = is_crowd_consistent(rt.alloc()).unwrap_or(false);
     assert!(rt; found);
 }
