@@ -4,6 +4,7 @@ ghost use Rattle.layouts_dm.specs.LayoutTables.{AreOfShape, StandsFor};
 ghost use Rattle.layouts_dm.specs.Outcomes.{Applies, Cause as Fault};
 ghost use Rattle.names_dm.specs.Statements.{Statement};
 ghost use Rattle.roles_dm.specs.Bad.{TellsFirstBad};
+ghost use Rattle.roles_dm.specs.Numbered.{AreNumbers};
 ghost use Rattle.roles_dm.specs.Roles.{IsRead};
 ghost use Rattle.table_csv.specs.Plain.{PlainTable};
 ghost use Rattle.inverse_dm.specs.Answers.{IsDetermined, Refuses, StandsWithin};
@@ -16,29 +17,33 @@ use facts_dm::naming_laws;
 use graph_tables_dm::{GraphTables, tables_of};
 use names_dm::{Base, Triple};
 use roles_dm::{
-    BadTriple, Cause, Roles, Words, datatypes_of, first_bad, graph_of, roles_of, words_of,
+    BadTriple, Cause, GraphWithNumbers, Numbered, Roles, Words, datatypes_of, first_bad, graph_of,
+    roles_of, words_of,
 };
 use std::alloc::{AllocError, Global};
 use store_dm::Graph;
 
-// A graph by numbers, and what it says of its terms.
+// A graph by numbers, with those of its triples in order, and what it says of its terms.
 #[derive(Drop)]
 struct ReadGraph {
     graph: Graph,
+    numbers: Vec<Numbered>,
     words: Words,
     roles: Roles,
 }
 
 fn read_graph(alloc: Global, base: &Base, triples: &[Triple]) -> Result<ReadGraph, AllocError>
     requires { length triples.now ≤ 16777216 }
-    ensures { IfOk result (λ read. IsRead base.now read.graph read.words read.roles triples.now) }
+    ensures numbers { IfOk result (λ read. AreNumbers read.graph triples.now read.numbers.items) }
+    ensures read { IfOk result (λ read. IsRead base.now read.graph read.words read.roles triples.now) }
 {
-    let graph = graph_of(alloc, triples)?;
+    let GraphWithNumbers { graph, numbers } = graph_of(alloc, triples)?;
     let words = words_of(alloc, &graph)?;
     let datatypes = datatypes_of(alloc, &graph)?;
     let roles = roles_of(alloc, base, &graph, &words, &datatypes)?;
     Ok(ReadGraph {
         graph,
+        numbers,
         words,
         roles,
     })
@@ -62,13 +67,15 @@ fn check_triples(
     triples: &[Triple],
     read: &ReadGraph,
 ) -> Result<(), InverseError>
-    requires { IsRead base.now read.now.graph read.now.words read.now.roles triples.now }
+    requires numbers { AreNumbers read.now.graph triples.now read.now.numbers.items }
+    requires read { IsRead base.now read.now.graph read.now.words read.now.roles triples.now }
     ensures { MatchResult result (λ _. (i : ℕ) (fault : Fault) → ¬ Applies base.now triples.now i fault) (λ error. (error ≡ InverseError.Memory) ⊎ Refuses base.now triples.now error) }
 {
     let found = first_bad(
         alloc,
         base,
         triples,
+        read.numbers.as_slice(),
         &read.graph,
         &read.words,
         read.roles.as_slice(),

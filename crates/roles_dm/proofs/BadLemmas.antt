@@ -13,7 +13,6 @@ use Rattle.layouts_dm.proofs.Outcomes as outcome
 use Rattle.roles_dm.specs.Bad.{TellsFirstBad, cause_of}
 use Rattle.roles_dm.specs.Columned.{AreColumned}
 use Rattle.roles_dm.specs.Judging.{IsSeen, TellsCause}
-use Rattle.roles_dm.specs.Numbered.{ArePredicates}
 use Rattle.roles_dm.specs.Seen.{AreValued, Judges, first_object}
 use Rattle.roles_dm.specs.declared.bad.Seen.{Seen}
 use Rattle.roles_dm.specs.declared.cause.Cause.{Cause as TheCause}
@@ -26,20 +25,19 @@ subject_node (term.Blank b) e = (blank b, refl)
 subject_node (term.Literal l) e = absurd (let q : false ≡ true = e in cc)
 
 module _ (base : List ℕ) (g : GraphValue) (rs : List Role) (G : List Statement) where
-  pub tells : (i : ℕ) (seen : Seen) (found : Option TheCause) → ArePredicates g seen.predicates → AreColumned rs seen.columned → Judges base g rs G i seen.firsts seen.valued found → TellsCause base g rs G i seen found
-  tells i seen None predicates columned h = (h.0, record { predicates = predicates; columned = columned; firsts = h.1; valued = h.2 })
-  tells i seen (Some cause) predicates columned h = h
+  pub tells : (i : ℕ) (seen : Seen) (found : Option TheCause) → AreColumned rs seen.columned → Judges base g rs G i seen.firsts seen.valued found → TellsCause base g rs G i seen found
+  tells i seen None columned h = (h.0, record { columned = columned; firsts = h.1; valued = h.2 })
+  tells i seen (Some cause) columned h = h
 
   -- ---- the pass
 
   abbrev pub HasPassed : ℕ → Seen → Type 0
   HasPassed i seen = ((j : ℕ) → j < i → Passes base G j) × IsSeen base g rs G i seen
 
-  pub none_passed : (seen : Seen) → ArePredicates g seen.predicates → AreColumned rs seen.columned → ((s p : ℕ) → first_object seen.firsts s p ≡ None) → AreValued g rs seen.valued → HasPassed 0 seen
-  none_passed seen predicates columned none valued = (
+  pub none_passed : (seen : Seen) → AreColumned rs seen.columned → ((s p : ℕ) → first_object seen.firsts s p ≡ None) → AreValued g rs seen.valued → HasPassed 0 seen
+  none_passed seen columned none valued = (
     (λ j l. absurd (omega (arith, l))),
     record {
-      predicates = predicates;
       columned = columned;
       firsts = record {
         told = λ n e. absurd (let f : None ≡ Some n.object = sym (none n.subject n.predicate) ∙ e in cc);

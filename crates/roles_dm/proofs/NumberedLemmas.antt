@@ -1,22 +1,44 @@
--- Numbers of predicates, noted one after another.
-use Rattle.std.proofs.Common.{◌≡◌, ℕ, List, Some, Bool, true, false, refl, sym, ap, ◌∙◌, subst, cond, nat_eq}
-use Rattle.std.specs.Cmp.Lexicographic.{pointwise}
-use Rattle.std.specs.HashMap.{get}
-use Rattle.value_dm.specs.Equality.{numbers_decide}
+-- The numbers of triples, place by place.
+use Rattle.std.proofs.Common.{◌≡◌, ℕ, zero, suc, List, [], ◌∷◌, length, map, Some, refl, ap, subst, inr, arith}
+use Rattle.std.specs.Prelude.{slice_get}
+use Rattle.std.specs.List.{AllZip}
+use Rattle.names_dm.specs.declared.term.Term.{Term}
 use Rattle.names_dm.specs.declared.term.Term.TheVariants as term
-use Rattle.store_dm.specs.Graphs.{GraphValue}
-use Rattle.roles_dm.specs.Numbered.{ArePredicates}
+use Rattle.names_dm.specs.Statements.{Statement}
+use Rattle.store_dm.specs.Graphs.{GraphValue, Names}
+use Rattle.store_dm.specs.Terms.{term_at}
+use Rattle.store_dm.specs.declared.listing.Triad.{Triad}
+use Rattle.roles_dm.specs.Numbered.{AreNumbers, AreNumbersOf, of_triad}
 use Rattle.roles_dm.specs.Numbers.{IsNumberOf}
-use Rattle.roles_dm.specs.declared.numbered.Predicates.{Predicates}
+use Rattle.roles_dm.specs.declared.numbered.Numbered.{Numbered}
 
-pub one_more : (g : GraphValue) (old new : Predicates) (i : List ℕ) (n : ℕ) → IsNumberOf g (term.Iri i) n → ((j : List ℕ) → get (pointwise nat_eq) new.numbers j ≡ cond (pointwise nat_eq i j) (Some n) (get (pointwise nat_eq) old.numbers j)) → ArePredicates g old → ArePredicates g new
-one_more g old new i n number updates are j m e = go (pointwise nat_eq i j) refl
-  where
-    unsome : (a b : ℕ) → Some a ≡ Some b → a ≡ b
-    unsome a b e = cc
+unsome : {A : Type 0} (a b : A) → Some a ≡ Some b → a ≡ b
+unsome a b e = cc
 
-    go : (b : Bool) → pointwise nat_eq i j ≡ b → IsNumberOf g (term.Iri j) m
-    go true q =
-        let same : n ≡ m = unsome n m (sym (updates j ∙ ap (λ (b : Bool). cond b (Some n) (get (pointwise nat_eq) old.numbers j)) q) ∙ e) in
-        subst {A = List ℕ × ℕ} (λ z. IsNumberOf g (term.Iri z.0) z.1) (λ k. ((numbers_decide i j).0 q k, same k)) number
-    go false q = are j m (sym (updates j ∙ ap (λ (b : Bool). cond b (Some n) (get (pointwise nat_eq) old.numbers j)) q) ∙ e)
+module _ (g : GraphValue) where
+  -- the numbers at the place of a triple
+  pub numbered_at : (G : List Statement) (numbers : List Numbered) (i : ℕ) (x : Statement) (n : Numbered) → AreNumbers g G numbers → slice_get G i ≡ Some x → slice_get numbers i ≡ Some n → AreNumbersOf g x n
+  numbered_at [] numbers i x n h e f = absurd (cc)
+  numbered_at (y ∷ G) [] i x n h e f = absurd h
+  numbered_at (y ∷ G) (m ∷ numbers) zero x n h e f = subst {A = Statement × Numbered} (λ z. AreNumbersOf g z.0 z.1) (λ k. (unsome y x e k, unsome m n f k)) h.0
+  numbered_at (y ∷ G) (m ∷ numbers) (suc i) x n h e f = numbered_at G numbers i x n h.1 e f
+
+  -- there are as many
+  pub as_many : (G : List Statement) (numbers : List Numbered) → AreNumbers g G numbers → length G ≡ length numbers
+  as_many [] [] h = refl
+  as_many [] (m ∷ numbers) h = absurd h
+  as_many (y ∷ G) [] h = absurd h
+  as_many (y ∷ G) (m ∷ numbers) h = ap suc (as_many G numbers h.1)
+
+  -- a number that is a term's is not 0
+  number_of : (x : Term) (n : ℕ) → term_at g.terms n ≡ Some x → IsNumberOf g x n
+  number_of x zero e = absurd (cc e)
+  number_of x (suc k) e = inr (omega arith, e)
+
+  -- triads with the numbers of the terms
+  pub named_numbers : (triads : List Triad) (G : List Statement) → AllZip (Names g.terms) triads G → AreNumbers g G (map of_triad triads)
+  named_numbers [] [] h = tt
+  named_numbers [] (t ∷ G) h = absurd h
+  named_numbers (x ∷ triads) [] h = absurd h
+  named_numbers (x ∷ triads) (t ∷ G) h =
+      (record { subject = number_of t.subject x.first h.0.0; predicate = number_of (term.Iri t.predicate) x.second h.0.1; object = number_of t.object x.third h.0.2 }, named_numbers triads G h.1)

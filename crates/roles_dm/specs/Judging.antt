@@ -5,7 +5,6 @@ use Rattle.store_dm.specs.Graphs.{GraphValue}
 use Rattle.layouts_dm.specs.Outcomes.{Applies, Passes}
 use Rattle.roles_dm.specs.Bad.{cause_of}
 use Rattle.roles_dm.specs.Columned.{AreColumned}
-use Rattle.roles_dm.specs.Numbered.{ArePredicates}
 use Rattle.roles_dm.specs.Seen.{AreFirsts, AreValued}
 use Rattle.roles_dm.specs.declared.bad.Seen.{Seen}
 use Rattle.roles_dm.specs.declared.cause.Cause.{Cause}
@@ -13,7 +12,6 @@ use Rattle.roles_dm.specs.declared.role.Role.{Role}
 
 -- what the triples before the place i told
 pub record IsSeen (base : List ℕ) (g : GraphValue) (rs : List Role) (G : List Statement) (i : ℕ) (seen : Seen) : Type 0 where
-  pub predicates : ArePredicates g seen.predicates
   pub columned : AreColumned rs seen.columned
   pub firsts : AreFirsts base g G i seen.firsts
   pub valued : AreValued g rs seen.valued

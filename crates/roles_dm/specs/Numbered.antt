@@ -1,13 +1,12 @@
 -- Triples by the numbers of their terms.
-use Rattle.std.specs.Prelude.{◌≡◌, ℕ, List, Some, nat_eq}
-use Rattle.std.specs.Cmp.Lexicographic.{pointwise}
-use Rattle.std.specs.HashMap.{get}
+use Rattle.std.specs.Prelude.{List}
+use Rattle.std.specs.List.{AllZip}
 use Rattle.names_dm.specs.declared.term.Term.TheVariants as term
 use Rattle.names_dm.specs.Statements.{Statement}
 use Rattle.store_dm.specs.Graphs.{GraphValue}
+use Rattle.store_dm.specs.declared.listing.Triad.{Triad}
 use Rattle.roles_dm.specs.Numbers.{IsNumberOf}
 use Rattle.roles_dm.specs.declared.numbered.Numbered.{Numbered}
-use Rattle.roles_dm.specs.declared.numbered.Predicates.{Predicates}
 
 -- the numbers of the triple's terms
 pub record AreNumbersOf (g : GraphValue) (x : Statement) (n : Numbered) : Type 0 where
@@ -15,6 +14,10 @@ pub record AreNumbersOf (g : GraphValue) (x : Statement) (n : Numbered) : Type 0
   pub predicate : IsNumberOf g (term.Iri x.predicate) n.predicate
   pub object : IsNumberOf g x.object n.object
 
--- each number is that of its IRI
-abbrev pub ArePredicates : GraphValue → Predicates → Type 0
-ArePredicates g known = (i : List ℕ) (n : ℕ) → get (pointwise nat_eq) known.numbers i ≡ Some n → IsNumberOf g (term.Iri i) n
+-- the numbers of the triples, place by place
+abbrev pub AreNumbers : GraphValue → List Statement → List Numbered → Type 0
+AreNumbers g G numbers = AllZip (AreNumbersOf g) G numbers
+
+-- the numbers of a triple, of the triad that begins with its subject
+abbrev pub of_triad : Triad → Numbered
+of_triad x = record { subject = x.first; predicate = x.second; object = x.third }

@@ -7,14 +7,14 @@ ghost use Rattle.roles_dm.specs.Bad.{TellsFirstBad};
 ghost use Rattle.roles_dm.specs.Judging.{IsSeen, TellsCause};
 ghost use Rattle.roles_dm.specs.Columned.{AreColumned};
 ghost use Rattle.roles_dm.specs.Findings.{Finds, IsTripleOf};
-ghost use Rattle.roles_dm.specs.Numbered.{ArePredicates};
+ghost use Rattle.roles_dm.specs.Numbered.{AreNumbers, AreNumbersOf};
 ghost use Rattle.roles_dm.specs.Roles.{IsRead};
 ghost use Rattle.roles_dm.specs.Seen.{AreFirsts, AreValued, HasCounted, Judges, NotesObject};
 
 use crate::cause::{BadTriple, Cause};
 use crate::columned::{Columned, columned_of};
 use crate::finding::{Finding, finding_of};
-use crate::numbered::{Numbered, Predicates};
+use crate::numbered::Numbered;
 use crate::role::Role;
 use crate::seen::{Firsts, Valued};
 use crate::words::Words;
@@ -109,13 +109,12 @@ fn judged(
 // What has been seen of a graph.
 #[derive(Drop)]
 struct Seen {
-    predicates: Predicates,
     columned: Columned,
     firsts: Firsts,
     valued: Valued,
 }
 
-// The cause that applies to the triple at a place, where every earlier triple passes.
+// The cause that applies to the triple of these numbers at a place, where every earlier triple passes.
 fn cause_at(
     alloc: Global,
     graph: &Graph,
@@ -123,12 +122,12 @@ fn cause_at(
     roles: &[Role],
     seen: &mut Seen,
     triple: &Triple,
+    numbers: Numbered,
 ) -> Result<Option<Cause>, AllocError>
-    ensures { IfOk result (λ found. (base : List ℕ) (G : List Statement) (i : ℕ) → NamingLaws base → IsRead base graph.now words.now roles.now G → slice_get G i ≡ Some triple.now → ((j : ℕ) → j < i → Passes base G j)
-        → IsSeen base graph.now roles.now G i seen.old → TellsCause base graph.now roles.now G i seen.new found) }
+    ensures { IfOk result (λ found. (base : List ℕ) (G : List Statement) (i : ℕ) → NamingLaws base → IsRead base graph.now words.now roles.now G → slice_get G i ≡ Some triple.now → AreNumbersOf graph.now triple.now numbers
+        → ((j : ℕ) → j < i → Passes base G j) → IsSeen base graph.now roles.now G i seen.old → TellsCause base graph.now roles.now G i seen.new found) }
 {
     let _subject = triple.subject();
-    let numbers = seen.predicates.numbered(alloc, graph, triple)?;
     let said = finding_of(
         alloc,
         graph,
@@ -151,26 +150,29 @@ fn cause_at(
 }
 
 /// The first triple, in order, to which one of the four causes applies, and the cause; None where none applies to any. The
-/// graph, the words and the roles are those of the triples. Refused for want of memory alone.
+/// numbers, the graph, the words and the roles are those of the triples. Refused for want of memory alone.
 pub fn first_bad(
     alloc: Global,
     base: &Base,
     triples: &[Triple],
+    numbers: &[Numbered],
     graph: &Graph,
     words: &Words,
     roles: &[Role],
 ) -> Result<Option<BadTriple>, AllocError>
-    ensures { IfOk result (λ found. IsRead base.now graph.now words.now roles.now triples.now → TellsFirstBad base.now triples.now found) }
+    ensures { IfOk result (λ found. AreNumbers graph.now triples.now numbers.now → IsRead base.now graph.now words.now roles.now triples.now → TellsFirstBad base.now triples.now found) }
 {
     naming_laws(base);
     let mut seen = Seen {
-        predicates: Predicates::new(alloc),
         columned: columned_of(alloc, roles)?,
         firsts: Firsts::new(alloc),
         valued: Valued::new(alloc),
     };
     for (before, triple) in triples.iter().enumerate() {
-        let found = cause_at(alloc, graph, words, roles, &mut seen, triple)?;
+        let Some(numbered) = numbers.get(before) else {
+            return Ok(None);
+        };
+        let found = cause_at(alloc, graph, words, roles, &mut seen, triple, *numbered)?;
         if let Some(cause) = found {
             return Ok(Some(BadTriple {
                 place: before as u64 + 1,

@@ -19,7 +19,8 @@ mod words;
 
 pub use bad::first_bad;
 pub use cause::{BadTriple, Cause};
-pub use numbers::{graph_of, has, number_of, only_object};
+pub use numbered::Numbered;
+pub use numbers::{GraphWithNumbers, graph_of, has, number_of, only_object};
 pub use relations::{Relations, relations_of, stated_relation};
 pub use role::{ColumnRole, LinkName, LinkRole, Role, Roles};
 pub use roles::{role_of, roles_of};

@@ -3,33 +3,32 @@ ghost use Rattle.std.specs.Prelude.{◌≡◌, ◌↔◌, ◌≤◌, IfOk, IsTru
 ghost use Rattle.names_dm.specs.Statements.{Statement};
 ghost use Rattle.std.specs.Option.{option_copied};
 ghost use Rattle.roles_dm.specs.Roles.{role_at};
+ghost use Rattle.roles_dm.specs.Numbered.{AreNumbers};
 ghost use Rattle.roles_dm.specs.Numbers.{HasNumbers, IsGraphOf, IsNumberOf, TellsOnly};
 
+use crate::numbered::{Numbered, all_numbered};
 use crate::role::Role;
-use names_dm::{Term, Triple, Triples};
+use names_dm::{Term, Triple};
 use std::alloc::{AllocError, Global};
-use store_dm::Graph;
-use value_dm::TryCopy;
+use store_dm::{Graph, NumberedGraph};
 
-// The triples again.
-fn copies(alloc: Global, triples: &[Triple]) -> Result<Triples, AllocError>
-    ensures { IfOk result (λ made. made ≡ triples.now) }
-{
-    let mut made = Triples::new(alloc);
-    for triple in triples {
-        made.push(triple.copy(alloc)?)?;
-    }
-    Ok(made)
+/// A graph, and the numbers of its triples in the order in which they were given.
+#[derive(Drop)]
+pub struct GraphWithNumbers {
+    pub graph: Graph,
+    pub numbers: Vec<Numbered>,
 }
 
-/// The graph of the triples, with a number for each term.
-pub fn graph_of(alloc: Global, triples: &[Triple]) -> Result<Graph, AllocError>
+/// The graph of the triples, with a number for each term, and the numbers of each triple. Refused for want of memory alone.
+pub fn graph_of(alloc: Global, triples: &[Triple]) -> Result<GraphWithNumbers, AllocError>
     requires { length triples.now ≤ 16777216 }
-    ensures { IfOk result (λ graph. IsGraphOf graph triples.now) }
+    ensures graph { IfOk result (λ made. IsGraphOf made.graph triples.now) }
+    ensures numbers { IfOk result (λ made. AreNumbers made.graph triples.now made.numbers.items) }
 {
-    let graph = Graph::build(alloc, copies(alloc, triples)?)?;
+    let NumberedGraph { graph, triads } = Graph::build_from(alloc, triples)?;
     let _count = graph.len();
-    Ok(graph)
+    let numbers = all_numbered(alloc, triads.as_slice())?;
+    Ok(GraphWithNumbers { graph, numbers })
 }
 
 /// The last number of a term, which is how many there are. Refused where it fits no u32, as that of no graph does.

@@ -41,6 +41,10 @@ before_from_less x y e = ⊎_elim (λ h. inl (nat_less x.first y.first h))
     ))
     (then_less _ _ e)
 
+pub first_from_before : (x y : Triad) → Before x y → x.first ≤ y.first
+unfolding Before
+first_from_before x y h = ⊎_elim (λ l. omega arith) (λ k. omega (arith, k.0)) h
+
 -- ---- the tests
 
 pub below_earlier : (from x y : Triad) → Before x y → is_below from y ≡ true → is_below from x ≡ true

@@ -4,8 +4,9 @@ ghost use Rattle.store_dm.specs.Terms.{AreOneToOne, IsNumbered, term_at};
 
 use indexmap::IndexSet;
 use names_dm::Term;
-use std::alloc::{AllocFailed, Global};
+use std::alloc::{AllocError, AllocFailed, Global};
 use std::marker::Model;
+use value_dm::TryCopy;
 
 /// The terms of a graph, each with a number: its place plus 1. A contract sees it as the list of the terms.
 #[derive(Drop)]
@@ -46,6 +47,19 @@ impl Dictionary {
     {
         let (index, _) = self.terms.insert_full(term)?;
         Ok(index as u32 + 1)
+    }
+
+    /// The number of a term, which is copied and added where it is new.
+    pub fn number_copied(&mut self, alloc: Global, term: &Term) -> Result<u32, AllocError>
+        requires small { length self.old < 2 ^ 32 - 1 }
+        requires apart { AreOneToOne self.old }
+        ensures number { IfOk result (λ n. IsNumbered self.old self.new term.now n) }
+        ensures apart { AreOneToOne self.new }
+    {
+        match self.id_of(term) {
+            Some(number) => Ok(number),
+            None => Ok(self.number(term.copy(alloc)?)?),
+        }
     }
 
     /// The number of a term, where it has one.

@@ -1,6 +1,7 @@
 ghost use Rattle.std.specs.Prelude.{◌≡◌, ◌≢◌, ◌↔◌, ◌<◌, ◌≤◌, ◌-◌, ◌^◌, ◌++◌, ◌∷◌, [], ℕ, List, AllPairs, Contains, IfOk, IfSome, IsSome, OnOk, Some, length, map};
+ghost use Rattle.std.specs.List.{AllZip};
 ghost use Rattle.names_dm.specs.Statements.{Statement};
-ghost use Rattle.store_dm.specs.Graphs.{AreNamed, AreNumbered, AreUsed, HasTriple, HoldsTerm, IsGraphOf, IsLawful};
+ghost use Rattle.store_dm.specs.Graphs.{AreNamed, AreNumbered, AreUsed, HasTriple, HoldsTerm, IsGraphOf, IsLawful, Names};
 ghost use Rattle.store_dm.specs.Terms.{AreOneToOne, term_at};
 ghost use Rattle.store_dm.specs.Triads.{FitsAll, IsPrefix};
 ghost use Rattle.store_dm.specs.Turns.{matches_left, turn, turned};
@@ -12,6 +13,14 @@ use crate::matches::{Beginning, Matches};
 use names_dm::{Term, Triple, Triples};
 use std::alloc::{AllocError, Global};
 use std::marker::Model;
+use value_dm::TryCopy;
+
+/// A graph, and the numbers of its triples in the order in which they were given.
+#[derive(Drop)]
+pub struct NumberedGraph {
+    pub graph: Graph,
+    pub triads: Vec<Triad>,
+}
 
 /// A set of triples. Contracts see its terms, in the order of their numbers, and its triples as numbers.
 #[derive(Drop)]
@@ -44,6 +53,26 @@ impl Graph {
             add_triple(&mut terms, &mut triads, triple)?;
         }
         graph_of(alloc, terms, triads)
+    }
+
+    /// The graph of these triples, and their numbers in order. A term is copied once, however many triples hold it. Refused for want of
+    /// memory alone.
+    pub fn build_from(alloc: Global, triples: &[Triple]) -> Result<NumberedGraph, AllocError>
+        requires { length triples.now ≤ 16777216 }
+        ensures built { IfOk result (λ made. (t : Statement) → HasTriple made.graph t ↔ Contains triples.now t) }
+        ensures numbers { IfOk result (λ made. AllZip (Names made.graph.terms) made.triads.items triples.now) }
+    {
+        let mut terms = Dictionary::new(alloc);
+        let mut triads = Vec::new(alloc);
+        for triple in triples {
+            add_copied(alloc, &mut terms, &mut triads, triple)?;
+        }
+        let kept = Vec::from_slice(alloc, triads.as_slice())?;
+        let graph = graph_of(alloc, terms, triads)?;
+        Ok(NumberedGraph {
+            graph,
+            triads: kept,
+        })
     }
 
     /// How many triples there are. Each term stands in one, and no term has two numbers.
@@ -142,6 +171,28 @@ fn add_triple(
     Ok(())
 }
 
+// Numbers the terms of a triple, which are copied where they are new, and adds their numbers.
+fn add_copied(
+    alloc: Global,
+    terms: &mut Dictionary,
+    triads: &mut Vec<Triad>,
+    triple: &Triple,
+) -> Result<(), AllocError>
+    requires small { length terms.old < 2 ^ 32 - 3 }
+    requires apart { AreOneToOne terms.old }
+    ensures { OnOk result ((ts : List Statement) → AreNumbered terms.old triads.old.items ts → AreNumbered terms.new triads.new.items (ts ++ triple.now ∷ [])) }
+{
+    let first = terms.number_copied(alloc, triple.subject())?;
+    let second = terms.number(Term::Iri(triple.predicate().copy(alloc)?))?;
+    let third = terms.number_copied(alloc, triple.object())?;
+    triads.push(Triad {
+        first,
+        second,
+        third,
+    })?;
+    Ok(())
+}
+
 // The graph of numbered triples.
 fn graph_of(alloc: Global, terms: Dictionary, triads: Vec<Triad>) -> Result<Graph, AllocError>
     requires used { AreUsed terms triads.items }
@@ -150,9 +201,11 @@ fn graph_of(alloc: Global, terms: Dictionary, triads: Vec<Triad>) -> Result<Grap
     requires apart { AreOneToOne terms }
     ensures { IfOk result (λ g. IsGraphOf terms triads.items g) }
 {
-    let by_predicate = Listing::new(turn_all(alloc, Beginning::Predicate, triads.as_slice())?);
-    let by_object = Listing::new(turn_all(alloc, Beginning::Object, triads.as_slice())?);
-    let by_subject = Listing::new(triads);
+    let predicates = turn_all(alloc, Beginning::Predicate, triads.as_slice())?;
+    let objects = turn_all(alloc, Beginning::Object, triads.as_slice())?;
+    let by_subject = Listing::new(alloc, triads)?;
+    let by_predicate = Listing::new(alloc, predicates)?;
+    let by_object = Listing::new(alloc, objects)?;
     Ok(Graph {
         terms,
         by_subject,
