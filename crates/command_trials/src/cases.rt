@@ -49,10 +49,12 @@ fn told_of(text: &str) -> Option<(Told, &str)> {
 /// number behind `~ ` (`fault_of`); how the runs end, behind `= `, or behind `! ` where the output isn't told; and the files that stand
 /// then (`has_files`). None where it has no ending, or no such call.
 pub fn case_of(text: &str) -> Option<Case> {
-    let (given, wanted) = match text.contains("\n= ") {
-        true => parted(text, "\n= "),
-        false => parted(text, "\n! "),
+    let ending = if text.contains("\n= ") {
+        "\n= "
+    } else {
+        "\n! "
     };
+    let (given, wanted) = parted(text, ending);
     let (given, call) = parted(given, "\n~ ");
     let (commands, files) = parted(given, "\n+ ");
     let (told, stored) = told_of(wanted)?;

@@ -180,3 +180,33 @@ fn files_that_are_too_long(rt: HostRuntime) {
     let found = is_too_long(rt.alloc(), FOLDER, "e/T.csv", table);
     assert!(rt; found);
 }
+
+// Many ranges of one property, and many triples of it.
+fn crowd(alloc: Global) -> Option<FileList> {
+    let mut text = String::new(alloc);
+    for number in 0..60_000 {
+        let lines = format!(in alloc;
+            "<p> <http://www.w3.org/2000/01/rdf-schema#range> <c{number}> .\n<s{number}> <p> <o> .\n"
+        );
+        text.push_str(lines.ok()?.as_str()).ok()?;
+    }
+    let mut files = FileList::new(alloc);
+    add_file(
+        alloc,
+        &mut files,
+        "g",
+        Vec::from_slice(alloc, text.as_bytes()).ok()?,
+    )?;
+    Some(files)
+}
+
+fn is_crowd_consistent(alloc: Global) -> Option<bool> {
+    let ended = run_over(alloc, "consistent g", crowd(alloc)?, Fault::Nowhere)?;
+    Some((ended.number == 0) & (ended.output.as_slice() == b"consistent\n".as_slice()))
+}
+
+#[test]
+fn many_ranges_of_one_property(rt: HostRuntime) {
+    let found = is_crowd_consistent(rt.alloc()).unwrap_or(false);
+    assert!(rt; found);
+}

@@ -1,12 +1,12 @@
+ghost use Rattle.std.specs.Prelude.{◌≤◌};
+
 use bench_dm::make_database;
-use command_trials::{Fault, add_file, files_of, output_of, run_on, run_without_faults, shelf_of};
+use command_trials::{Fault, add_file, files_of, has_files, output_of, run_on, shelf_of};
 use outside_dm::FileList;
 use schema_dm::ShapeTable;
 use std::alloc::{AllocError, Global};
 use table_csv::{Database, table_text};
 use value_dm::TryCopy;
-
-const LARGE: u32 = 20_000;
 
 // The statements of the generator's database, and the two queries of `bench`.
 const FILES: &str = "
@@ -43,11 +43,27 @@ fn text_at(alloc: Global, database: &Database, place: u32) -> Result<Vec<u8>, Al
     table_text(alloc, &shape, database.rows_of(place))
 }
 
-// The texts of the tables of the generator's database of 20 persons, one behind the other.
-const SMALL: &str = "id,name
+// The folder of the generator's database of so many persons, with the queries.
+fn folder(alloc: Global, persons: u32) -> Option<FileList>
+    requires { persons ≤ 50000 }
+{
+    let database = make_database(alloc, persons).ok()?;
+    let mut files = files_of(alloc, FILES)?;
+    for (place, name) in TABLES {
+        let text = text_at(alloc, &database, place).ok()?;
+        add_file(alloc, &mut files, name, text)?;
+    }
+    Some(files)
+}
+
+// The tables of the generator's database of 20 persons.
+const SMALL: &str = "
+@ d/Dept.csv
+id,name
 1,d1
 2,d2
 3,d3
+@ d/Person.csv
 id,name,dept,boss
 1,p1,2,\\N
 10,p10,\\N,5
@@ -69,6 +85,7 @@ id,name,dept,boss
 7,\\N,2,3
 8,p8,3,4
 9,p9,1,4
+@ d/Member.csv
 person,dept
 1,1
 10,1
@@ -90,6 +107,7 @@ person,dept
 7,1
 8,1
 9,1
+@ d/Note.csv
 text,size
 n0,1
 n0,2
@@ -110,17 +128,11 @@ n7,2
 n8,2
 n8,\\N
 n9,1
-n9,\\N
-";
+n9,\\N";
 
 fn is_small(alloc: Global) -> Option<bool> {
-    let database = make_database(alloc, 20).ok()?;
-    let mut whole = Vec::new(alloc);
-    for (place, _) in TABLES {
-        let text = text_at(alloc, &database, place).ok()?;
-        whole.extend_from_slice(text.as_slice()).ok()?;
-    }
-    Some(whole.as_slice() == SMALL.as_bytes())
+    let shelf = shelf_of(alloc, folder(alloc, 20)?, Fault::Nowhere)?;
+    has_files(alloc, &shelf, SMALL)
 }
 
 #[test]
@@ -129,24 +141,13 @@ fn a_small_database(rt: HostRuntime) {
     assert!(rt; found);
 }
 
-// The folder of the generator's database, with the queries.
-fn folder(alloc: Global) -> Option<FileList> {
-    let database = make_database(alloc, LARGE).ok()?;
-    let mut files = files_of(alloc, FILES)?;
-    for (place, name) in TABLES {
-        let text = text_at(alloc, &database, place).ok()?;
-        add_file(alloc, &mut files, name, text)?;
-    }
-    Some(files)
-}
-
 fn lines(bytes: &[u8]) -> usize {
     bytes.iter().filter(|byte| **byte == b'\n').count()
 }
 
 // The folder with its map graph, which has as many lines as the graph has triples.
 fn folder_with_graph(alloc: Global) -> Option<FileList> {
-    let mut files = folder(alloc)?;
+    let mut files = folder(alloc, 20_000)?;
     let line = "map http://example.com/ d";
     let graph = output_of(alloc, line, files.copy(alloc).ok()?)?;
     if lines(graph.as_slice()) != 208_514 {
@@ -186,54 +187,5 @@ fn comes_back(alloc: Global) -> Option<bool> {
 #[test]
 fn a_large_database(rt: HostRuntime) {
     let found = comes_back(rt.alloc()).unwrap_or(false);
-    assert!(rt; found);
-}
-
-// What `bench 20000` writes.
-const BENCH: &str = "rows 62001
-triples 208514
-inverted equal
-answer 20 equal
-joined 8 equal
-";
-
-fn is_benched(alloc: Global) -> Option<bool> {
-    let ended = run_without_faults(alloc, "bench 20000", FileList::new(alloc))?;
-    Some((ended.number == 0) & (ended.output.as_slice() == BENCH.as_bytes()))
-}
-
-#[test]
-fn bench(rt: HostRuntime) {
-    let found = is_benched(rt.alloc()).unwrap_or(false);
-    assert!(rt; found);
-}
-
-// Many ranges of one property, and many triples of it.
-fn crowd(alloc: Global) -> Option<FileList> {
-    let mut text = String::new(alloc);
-    for number in 0..60_000 {
-        let lines = format!(in alloc;
-            "<p> <http://www.w3.org/2000/01/rdf-schema#range> <c{number}> .\n<s{number}> <p> <o> .\n"
-        );
-        text.push_str(lines.ok()?.as_str()).ok()?;
-    }
-    let mut files = FileList::new(alloc);
-    add_file(
-        alloc,
-        &mut files,
-        "g",
-        Vec::from_slice(alloc, text.as_bytes()).ok()?,
-    )?;
-    Some(files)
-}
-
-fn is_crowd_consistent(alloc: Global) -> Option<bool> {
-    let ended = run_without_faults(alloc, "consistent g", crowd(alloc)?)?;
-    Some((ended.number == 0) & (ended.output.as_slice() == b"consistent\n".as_slice()))
-}
-
-#[test]
-fn many_ranges_of_one_property(rt: HostRuntime) {
-    let found = is_crowd_consistent(rt.alloc()).unwrap_or(false);
     assert!(rt; found);
 }
